@@ -2,7 +2,7 @@
 ghost use Rattle.std.specs.Prelude.{◌≡◌, ◌<◌, ◌≤◌, ◌+◌, ◌^◌, ◌||◌, ℕ, IfSome, false, max, nat_le};
 ghost use Rattle.std.specs.List.{list_all};
 ghost use Rattle.area_rules.specs.Placement.{is_free, hinted_place, highest_below, low_place, place_low, place};
-ghost use Rattle.area_rules.specs.Internal.Blockers.{blocker};
+ghost use Rattle.area_rules.specs.Blockers.{blocker};
 ghost use Rattle.area_rules.specs.declared.placement.TheConstants.{WINDOW_END};
 
 use area_rules::{Bounds, FLOOR, WINDOW_END, fits, hint_page, is_high, window_end};
@@ -25,7 +25,7 @@ fn is_each_clear(areas: &[Record], pages: u64, start: u64) -> bool
 }
 
 /// The first area that has one of so many pages from this start on.
-#[tactic(auto, unfolding(area_rules::specs::Internal::Blockers::blocker))]
+#[tactic(auto, unfolding(area_rules::specs::Blockers::blocker))]
 fn blocker(areas: &[Record], pages: u64, start: u64) -> Option<Record>
     requires { start + pages < 2 ^ 64 }
     ensures { result ≡ blocker areas.now pages start }

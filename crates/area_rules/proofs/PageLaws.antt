@@ -25,9 +25,9 @@ use Rattle.area_list.proofs.Order.{good_from_canonical}
 use Rattle.area_list.proofs.Putting.{page_map-put}
 use Rattle.area_rules.specs.declared.mremap_request.Moved.{Moved}
 use Rattle.area_rules.specs.declared.mremap_request.MremapArgs.{MremapArgs}
-use Rattle.area_rules.specs.Laws.{prefix_of, moved_range, IsMove}
+use Rattle.area_rules.specs.Laws.{moved_range, IsMove}
 use Rattle.area_rules.specs.Mmap.{new_area, mapped_list, mmap_done}
-use Rattle.area_rules.specs.Mprotect.{may_have, stop_of, protected_prefix, protect_request_rows, mprotect_rows, stop_error, stopped_reply, mprotect_done, mprotect}
+use Rattle.area_rules.specs.Mprotect.{may_have, stop_of, protected_prefix, protect_request_rows, mprotect_rows, stop_error, stopped_reply, mprotect_done, mprotect, prefix_of}
 use Rattle.area_rules.specs.Mremap.{lengthens, old_range, mremap_rows, carried_area, moved, shrunk_list, added_range, has_room, lengthened_list, mremap_change, mremap_done, mremap_unsealed}
 use Rattle.area_rules.specs.Munmap.{range_of}
 use Rattle.area_rules.specs.Pages.{mmap_page, runs_on}

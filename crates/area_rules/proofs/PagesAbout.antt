@@ -14,10 +14,11 @@ use Rattle.mm_types.specs.declared.call.Reply.TheVariants.{Addr, Zero, Refused, 
 use Rattle.mm_types.specs.declared.config.Config.{Config}
 use Rattle.area_list.specs.Areas.{has_page, page_map}
 use Rattle.area_list.proofs.Holding.{inside}
+use Rattle.area_rules.specs.Mprotect.{prefix_of}
 use Rattle.area_rules.specs.declared.mremap_request.MremapArgs.{MremapArgs}
 use Rattle.area_rules.specs.Brk.{pages_between}
 use Rattle.area_rules.specs.Growing.{grows}
-use Rattle.area_rules.specs.Laws.{prefix_of, after_brk}
+use Rattle.area_rules.specs.Laws.{after_brk}
 use Rattle.area_rules.specs.Mremap.{mremap_args}
 use Rattle.area_rules.specs.Munmap.{range_of}
 use Rattle.area_rules.specs.Pages.{replied_range, replied_break, spans_about, is_about}

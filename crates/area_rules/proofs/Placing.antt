@@ -8,7 +8,7 @@ use Rattle.mm_types.specs.declared.area.Record.{Record}
 use Rattle.area_rules.specs.declared.placement.Bounds.{Bounds}
 use Rattle.area_rules.specs.declared.placement.TheConstants.{FLOOR, WINDOW_END}
 use Rattle.area_rules.specs.Placement.{is_free, highest_below, high_place, low_place}
-use Rattle.area_rules.specs.Internal.Blockers.{blocker}
+use Rattle.area_rules.specs.Blockers.{blocker}
 use Rattle.area_list.proofs.Finding.{find_passes, find_fails_all}
 use Rattle.area_rules.proofs.Searching.{greatest_is, greatest_none, least_is, least_none}
 

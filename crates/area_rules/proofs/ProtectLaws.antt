@@ -1,6 +1,7 @@
 -- For the law `protect_changes_the_prefix`: where mprotect(2) stops, and the list that it leaves.
-use Rattle.std.proofs.Common.{◌≡◌, ◌≤◌, ℕ, Bool, true, false, not, ◌&&◌, if◌then◌else◌, nat_le, List, Option, Some, None, option_map, refl, ◌∙◌, sym, arith}
+use Rattle.std.proofs.Common.{◌≡◌, ◌≤◌, ◌<◌, ◌↔◌, subst, inl, inr, ℕ, Bool, true, false, not, ◌&&◌, if◌then◌else◌, nat_le, List, Option, Some, None, option_map, refl, ◌∙◌, sym, arith}
 use Rattle.std.specs.Option.{unwrap_or, IfSome}
+use Rattle.std.proofs.lemmas.Bool.{cases_lt, both_ways}
 use Rattle.std.proofs.lemmas.Bool.Decides.{nat_tests}
 use Rattle.mm_types.specs.declared.area.Span.{Span}
 use Rattle.mm_types.specs.declared.area.Prot.{Prot}
@@ -13,8 +14,7 @@ use Rattle.area_list.proofs.Holding.{lies_in}
 use Rattle.area_list.proofs.Changed.{changed_canonical, page_map-changed}
 use Rattle.area_list.proofs.Uniqueness.{canonical_unique}
 use Rattle.area_rules.specs.Placement.{least_below}
-use Rattle.area_rules.specs.Mprotect.{may_have, stop_of, protected_prefix}
-use Rattle.area_rules.specs.Laws.{IsStop, prefix_of}
+use Rattle.area_rules.specs.Mprotect.{may_have, stop_of, protected_prefix, IsStop, prefix_of}
 use Rattle.area_rules.proofs.Searching.{least_some, none_from_least}
 
 -- the stop of a range
@@ -50,6 +50,26 @@ stop_is prot range areas some = at (least_below stops range.hi) refl
               (least.2 page high);
           stopped = λ less. here.1;
         }
+
+-- and no other page is one
+only_stop : (prot : Prot) (range : Span) (areas : List Record) (one other : ℕ) → IsStop prot range areas one → IsStop prot range areas other
+    → one < other → ⊥
+only_stop prot range areas one other first second less =
+    both_ways (may_have prot (area_at areas one)) (first.stopped (omega (arith, less, second.ends))) (second.before one first.begins less)
+
+pub the_stop : (prot : Prot) (range : Span) (areas : List Record) (stop : ℕ) → range.lo ≤ range.hi
+    → IsStop prot range areas stop ↔ (stop ≡ stop_of prot range areas)
+the_stop prot range areas stop some =
+    let is = stop_is prot range areas some in (
+      λ found. elim (cases_lt stop (stop_of prot range areas)) [
+        | inl less ↦ absurd (only_stop prot range areas stop (stop_of prot range areas) found is less)
+        | inr more ↦ elim (cases_lt (stop_of prot range areas) stop) [
+          | inl less ↦ absurd (only_stop prot range areas (stop_of prot range areas) stop is found less)
+          | inr same ↦ omega (arith, more, same)
+        ]
+      ],
+      λ same. subst (IsStop prot range areas) (sym same) is,
+    )
 
 allowed_there : (prot : Prot) (o : Option Record) → may_have prot o ≡ true
     → IfSome o (λ area. may_become (Protection prot) area.attr ≡ true)

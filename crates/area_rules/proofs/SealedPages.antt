@@ -32,14 +32,14 @@ use Rattle.area_rules.specs.Brk.{pages_between, heap_area, brk}
 use Rattle.area_rules.specs.Growing.{touch}
 use Rattle.area_rules.specs.Mmap.{is_noreplace, is_fixed, is_taken, start_of, new_area, mapped_list, mmap_done, mmap_unsealed}
 use Rattle.area_rules.specs.Munmap.{range_of, munmap_unsealed}
-use Rattle.area_rules.specs.Mprotect.{protect_request_rows, mprotect_unsealed}
+use Rattle.area_rules.specs.Mprotect.{protect_request_rows, mprotect_unsealed, prefix_of}
 use Rattle.area_rules.specs.declared.mremap_request.MremapArgs.{MremapArgs}
 use Rattle.area_rules.specs.Mremap.{mremap_args, moves_to, lengthens, old_range, new_range, carried_area, moved_list, shrunk_list, added_range, has_room, lengthened_list, mremap_done, mremap_unsealed}
 use Rattle.area_rules.specs.Mseal.{mseal}
 use Rattle.area_rules.specs.Seals.{has_sealed}
 use Rattle.area_rules.specs.Guarded.{guarded_ranges, is_sealed_off}
 use Rattle.area_rules.specs.Steps.{step_unsealed, step, IsReady}
-use Rattle.area_rules.specs.Laws.{prefix_of, moved_range, MovesTo}
+use Rattle.area_rules.specs.Laws.{moved_range, MovesTo}
 use Rattle.area_rules.proofs.Fitting.{place_free}
 use Rattle.area_rules.proofs.Guarding.{step_cases}
 use Rattle.area_rules.proofs.Cases.{IsMappable, mmap_cases, munmap_cases, mprotect_cases, grower_is, touch_cases, brk_cases, mseal_cases}

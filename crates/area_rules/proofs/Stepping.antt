@@ -27,13 +27,12 @@ use Rattle.area_rules.specs.Placement.{is_free}
 use Rattle.area_rules.specs.Growing.{is_above, grown_to, grown_at, grown_list, AreGrowersPrivate, touch}
 use Rattle.area_rules.specs.Mmap.{is_anonymous, is_shared, grows_down, cannot_grow, object_mapped, mapped_list, mmap_done, mmap_unsealed, new_area, objects_after}
 use Rattle.area_rules.specs.Munmap.{range_of, munmap_unsealed}
-use Rattle.area_rules.specs.Mprotect.{protected_prefix, mprotect_unsealed}
+use Rattle.area_rules.specs.Mprotect.{protected_prefix, mprotect_unsealed, prefix_of}
 use Rattle.area_rules.specs.declared.mremap_request.MremapArgs.{MremapArgs}
 use Rattle.area_rules.specs.Mremap.{mremap_args, carried_area, mremap_unsealed}
 use Rattle.area_rules.specs.Brk.{pages_between, heap_area, has_room_above, brk}
 use Rattle.area_rules.specs.Mseal.{mseal}
 use Rattle.area_rules.specs.Steps.{step_unsealed, step, IsReady}
-use Rattle.area_rules.specs.Laws.{prefix_of}
 use Rattle.area_list.proofs.Changed.{changed_canonical, changed_each}
 use Rattle.area_list.proofs.Cutting.{cut_canonical, cut_each}
 use Rattle.area_list.proofs.Elements.{Each-weaker}

@@ -1,7 +1,6 @@
 -- What the laws of the calls speak of.
-use Rattle.std.specs.Prelude.{ℕ, ◌≡◌, ◌<◌, ◌≤◌, ◌+◌, ◌⊎◌, true, false, List, Some, None, IsSomeAnd}
+use Rattle.std.specs.Prelude.{ℕ, ◌≡◌, ◌+◌, ◌⊎◌, true, false, List, Some, None, IsSomeAnd}
 use Rattle.mm_types.specs.declared.area.Span.{Span}
-use Rattle.mm_types.specs.declared.area.Prot.{Prot}
 use Rattle.mm_types.specs.declared.area.Record.{Record}
 use Rattle.mm_types.specs.declared.call.Call.TheVariants.{Mmap, Brk}
 use Rattle.mm_types.specs.declared.call.MmapArgs.{MmapArgs}
@@ -13,23 +12,10 @@ use Rattle.area_list.specs.Areas.{page_of, has_page, MappedPage, page_map, area_
 use Rattle.area_rules.specs.Tables.{AddressSpace, pages_of}
 use Rattle.mm_types.specs.Rows.{first_row}
 use Rattle.area_rules.specs.Mmap.{is_anonymous, is_shared}
-use Rattle.area_rules.specs.Mprotect.{may_have, stop_of}
 use Rattle.area_rules.specs.declared.mremap_request.MremapArgs.{MremapArgs}
 use Rattle.area_rules.specs.Mremap.{moves_to, lengthens, has_room, new_place, mremap_rows}
 use Rattle.area_rules.specs.Brk.{heap_attr}
 use Rattle.area_rules.specs.Steps.{step}
-
--- A page is where mprotect(2) stops in a range where each page of the range before it is mapped and may have the
--- protection, and it is the range's end, or not mapped, or may not have the protection.
-pub record IsStop (prot : Prot) (range : Span) (areas : List Record) (stop : ℕ) : Type 0 where
-  pub begins : range.lo ≤ stop
-  pub ends : stop ≤ range.hi
-  pub before : (page : ℕ) → range.lo ≤ page → page < stop → may_have prot (area_at areas page) ≡ true
-  pub stopped : stop < range.hi → may_have prot (area_at areas stop) ≡ false
-
--- the pages of the range before the stop
-abbrev pub prefix_of : Prot → Span → List Record → Span
-prefix_of prot range areas = record { lo = range.lo; hi = stop_of prot range areas }
 
 -- the pages of a moved range that begins at this page
 abbrev pub moved_range : MremapArgs → ℕ → Span

@@ -15,5 +15,5 @@ pub mod Steps
 pub mod Journals
 pub mod Laws
 pub mod Pages
-pub mod Internal
+pub mod Blockers
 pub mod Limits

@@ -1,5 +1,5 @@
 -- mprotect(2), row by row.
-use Rattle.std.specs.Prelude.{ℕ, ◌+◌, ◌*◌, Bool, false, not, ◌&&◌, if◌then◌else◌, nat_eq, nat_le, List, [], ◌∷◌, ◌++◌, Option, Some, None, unwrap_or}
+use Rattle.std.specs.Prelude.{ℕ, ◌≡◌, ◌<◌, ◌≤◌, ◌+◌, ◌*◌, Bool, true, false, not, ◌&&◌, if◌then◌else◌, nat_eq, nat_le, List, [], ◌∷◌, ◌++◌, Option, Some, None, unwrap_or}
 use Rattle.std.specs.Option.{option_map_or}
 use Rattle.mm_types.specs.declared.area.Span.{Span}
 use Rattle.mm_types.specs.declared.area.Prot.{Prot}
@@ -24,13 +24,29 @@ unfoldable pub may_have : Prot → Option Record → Bool
 may_have prot None = false
 may_have prot (Some area) = holds_all area.attr.most prot
 
--- the first page of the range that is not mapped or may not have the protection, or the range's end
-unfoldable pub stop_of : Prot → Span → List Record → ℕ
-stop_of prot range areas = unwrap_or (least_below (λ page. nat_le range.lo page && not (may_have prot (area_at areas page))) range.hi) range.hi
+-- A page is where mprotect(2) stops in a range: each page of the range before it is mapped and may have the protection, and it is
+-- the range's end, or not mapped, or may not have the protection.
+pub record IsStop (prot : Prot) (range : Span) (areas : List Record) (stop : ℕ) : Type 0 where
+  pub begins : range.lo ≤ stop
+  pub ends : stop ≤ range.hi
+  pub before : (page : ℕ) → range.lo ≤ page → page < stop → may_have prot (area_at areas page) ≡ true
+  pub stopped : stop < range.hi → may_have prot (area_at areas stop) ≡ false
 
--- the list with the protection on the pages before the stop
+-- whether mprotect(2) stops at a page, if it comes there
+abbrev pub stops_at : Prot → Span → List Record → ℕ → Bool
+stops_at prot range areas page = nat_le range.lo page && not (may_have prot (area_at areas page))
+
+-- the stop, as it is searched: the first page of the range at which it stops, or the range's end
+unfoldable pub stop_of : Prot → Span → List Record → ℕ
+stop_of prot range areas = unwrap_or (least_below (stops_at prot range areas) range.hi) range.hi
+
+-- the pages of the range before the stop
+abbrev pub prefix_of : Prot → Span → List Record → Span
+prefix_of prot range areas = record { lo = range.lo; hi = stop_of prot range areas }
+
+-- the list with the protection on those pages: the only canonical one that maps them so and all others as before
 unfoldable pub protected_prefix : Prot → Span → List Record → List Record
-protected_prefix prot range areas = protected_list prot (record { lo = range.lo; hi = stop_of prot range areas }) areas
+protected_prefix prot range areas = protected_list prot (prefix_of prot range areas) areas
 
 -- the tests of the request alone, in their order: not aligned, empty length, past 2^64
 unfoldable pub protect_request_rows : ℕ → ℕ → List (Bool × Reply)

@@ -9,8 +9,8 @@ use Rattle.mm_types.specs.declared.call.Reply.{Reply}
 use Rattle.mm_types.specs.declared.call.Reply.TheVariants.{Addr}
 use Rattle.mm_types.specs.declared.config.Config.{Config}
 use Rattle.area_list.specs.Areas.{MappedPage, page_of, has_page}
+use Rattle.area_rules.specs.Mprotect.{prefix_of}
 use Rattle.area_rules.specs.Brk.{pages_between}
-use Rattle.area_rules.specs.Laws.{prefix_of}
 use Rattle.area_rules.specs.Mmap.{is_anonymous, is_shared, grows_down, most_allowed, object_mapped}
 use Rattle.area_rules.specs.Munmap.{range_of}
 use Rattle.area_rules.specs.Tables.{AddressSpace, is_refusal}

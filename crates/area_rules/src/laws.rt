@@ -16,20 +16,20 @@ ghost use Rattle.area_list.specs.Areas.{IsCanonical, IsSound, page_of, has_page,
 ghost use Rattle.area_rules.specs.Tables.{AddressSpace, pages_of};
 ghost use Rattle.area_rules.specs.Growing.{AreGrowersPrivate};
 ghost use Rattle.area_rules.specs.Munmap.{range_of};
-ghost use Rattle.area_rules.specs.Mprotect.{stop_of, protected_prefix};
+ghost use Rattle.area_rules.specs.Mprotect.{stop_of, protected_prefix, IsStop, prefix_of};
 ghost use Rattle.area_rules.specs.declared.mremap_request.MremapArgs.{MremapArgs};
 ghost use Rattle.area_rules.specs.Mremap.{old_range, moved_list, remaps_seal, mremap};
 ghost use Rattle.area_list.specs.Areas.{overlap};
 ghost use Rattle.area_list.specs.declared.attributes.AttrChange.TheVariants.{Protection};
 ghost use Rattle.area_list.specs.Attributes.{changed_page};
-ghost use Rattle.area_rules.specs.Laws.{IsStop, prefix_of, moved_range, IsMove, MapsShared};
+ghost use Rattle.area_rules.specs.Laws.{moved_range, IsMove, MapsShared};
 ghost use Rattle.area_rules.specs.Steps.{step, IsReady, opening, after, IsLegalJournal};
 
 /// mprotect(2) changes the pages of its range before the first that is not mapped or may not have the protection, and
 /// leaves the only canonical list with that map of pages.
 pub fn protect_changes_the_prefix()
-    ensures stop { (prot : Prot) (range : Span) (areas : List Record) → range.lo ≤ range.hi
-        → IsStop prot range areas (stop_of prot range areas) }
+    ensures stop { (prot : Prot) (range : Span) (areas : List Record) (stop : ℕ) → range.lo ≤ range.hi
+        → IsStop prot range areas stop ↔ (stop ≡ stop_of prot range areas) }
     ensures prefix_canonical { (end : ℕ) (prot : Prot) (range : Span) (areas : List Record) → range.lo ≤ range.hi
         → IsCanonical end areas → IsCanonical end (protected_prefix prot range areas) }
     ensures prefix_pages { (end : ℕ) (prot : Prot) (range : Span) (areas : List Record) (page : ℕ) → range.lo ≤ range.hi

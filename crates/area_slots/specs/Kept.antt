@@ -4,7 +4,7 @@ use Rattle.std.specs.List.Sorted.{IsNonDecreasingBy}
 use Rattle.std.specs.Vec.{vec_capacity}
 use Rattle.std.specs.VecDeque.{deque_capacity}
 use Rattle.area_slots.specs.declared.slots.AreaSlots.TheInside.{Inside}
-use Rattle.area_slots.specs.Slots.{SlotSet, times, times_left}
+use Rattle.area_slots.specs.Slots.{SlotSet, times_of_slot, times_left}
 
 -- the set that the fields are
 abbrev pub set_of : Inside → SlotSet
@@ -13,7 +13,7 @@ set_of slots = record { free = slots.free.items; left = slots.left.items; count 
 -- Each slot below the count is free once or left once or is taken, and no other is. Those that left stand by rising
 -- trees. There is room for all slots in both lists.
 pub record AreSlots (slots : Inside) : Type 0 where
-  pub once : (slot : ℕ) → times slot slots.free.items + times_left slot slots.left.items ≤ (if nat_lt slot slots.count then 1 else 0)
+  pub once : (slot : ℕ) → times_of_slot slot slots.free.items + times_left slot slots.left.items ≤ (if nat_lt slot slots.count then 1 else 0)
   pub rises : IsNonDecreasingBy (λ leaving. leaving.tree) slots.left.items
   pub all_free : slots.count ≤ vec_capacity slots.free
   pub all_left : slots.count ≤ deque_capacity slots.left

@@ -3,7 +3,7 @@ ghost use Rattle.std.specs.Prelude.{◌≡◌, ◌↔◌, ◌++◌, ◌∷◌, �
 ghost use Rattle.std.specs.List.{range_with_len};
 ghost use Rattle.std.specs.List.Sorted.{IsPartitionPoint};
 ghost use Rattle.area_slots.specs.declared.leaving.Leaving.{Leaving};
-ghost use Rattle.area_slots.specs.Slots.{IsTaken, left_by, gone_by, gone_after, slots_of};
+ghost use Rattle.area_slots.specs.Slots.{IsSlotTaken, retired_by, gone_by, gone_after, slots_left};
 
 use crate::leaving::Leaving;
 use mm_types::{NoMemory, Slot};
@@ -53,7 +53,7 @@ impl AreaSlots {
     pub fn take(&mut self) -> Option<Slot>
         ensures none { IsNone result ↔ (self.old.free ≡ []) }
         ensures slot { IfSome result (λ slot. self.old ≡ record self.new { free = self.new.free ++ slot.0 ∷ [] }) }
-        ensures taken { IfSome result (λ slot. IsTaken self.new slot.0) }
+        ensures taken { IfSome result (λ slot. IsSlotTaken self.new slot.0) }
     {
         let slot = self.free.pop()?;
         Some(Slot(slot))
@@ -68,7 +68,7 @@ impl AreaSlots {
 
     /// A slot that was taken leaves with a tree: it stands after all that left by this tree.
     pub fn retire(&mut self, slot: Slot, tree: u64)
-        requires { IsTaken self.old slot.0 }
+        requires { IsSlotTaken self.old slot.0 }
         ensures { self.new ≡ record self.old {
           left = gone_by tree self.old.left ++ record { slot = slot.0; tree = tree } ∷ gone_after tree self.old.left;
         } }
@@ -80,7 +80,7 @@ impl AreaSlots {
     /// How many slots left by a tree. Where it is not below the last of them, no other is looked at.
     fn place_of(&self, tree: u64) -> usize
         ensures within { result ≤ length self.now.left }
-        ensures point { IsPartitionPoint (λ leaving. left_by tree leaving ≡ true) (λ leaving. left_by tree leaving ≡ false) self.now.left result }
+        ensures point { IsPartitionPoint (λ leaving. retired_by tree leaving ≡ true) (λ leaving. retired_by tree leaving ≡ false) self.now.left result }
     {
         match self.left.back() {
             Some(last) if last.tree > tree => self.left.partition_point(|other| other.tree <= tree),
@@ -91,7 +91,7 @@ impl AreaSlots {
     /// Frees the slots that left at or before a tree.
     pub fn seen(&mut self, tree: u64)
         ensures { self.new ≡ record self.old {
-          free = self.old.free ++ slots_of (gone_by tree self.old.left);
+          free = self.old.free ++ slots_left (gone_by tree self.old.left);
           left = gone_after tree self.old.left;
         } }
     {

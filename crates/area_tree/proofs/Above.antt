@@ -6,7 +6,7 @@ use Rattle.mm_types.specs.declared.area.Record.{Record}
 use Rattle.split_merge.specs.Finding.{first_from}
 use Rattle.mm_types.specs.declared.slot.Slot.{Slot}
 use Rattle.maple_node.specs.Trees.{Pair}
-use Rattle.maple_gap.specs.Gaps.{first_from as first_pair, slot_in}
+use Rattle.maple_gap.specs.Gaps.{first_pair_from as first_pair, slot_in}
 use Rattle.area_tree.specs.SpanTrees.{ArePairs}
 use Rattle.area_tree.specs.AreaTrees.{shown_at, areas_shown, AreasRise, AreRecords}
 use Rattle.area_tree.proofs.Order.{areas_rise}

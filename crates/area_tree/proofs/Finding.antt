@@ -10,7 +10,7 @@ use Rattle.mm_types.specs.declared.area.Span.{Span}
 use Rattle.mm_types.specs.declared.area.Record.{Record}
 use Rattle.mm_types.specs.declared.slot.Slot.{Slot}
 use Rattle.maple_node.specs.Trees.{Pair}
-use Rattle.maple_gap.specs.Gaps.{span_of, first_from, last_before, slot_in}
+use Rattle.maple_gap.specs.Gaps.{span_of, first_pair_from, last_pair_before, slot_in}
 use Rattle.split_merge.specs.Finding.{first_from as first_area, last_before as last_area}
 use Rattle.area_tree.specs.SpanTrees.{ArePairs}
 use Rattle.area_tree.specs.declared.shown.ShownArea.{ShownArea}
@@ -23,8 +23,8 @@ shown_in records slot = option_map (λ (s : Slot). area_in records s.0) slot
 
 -- one step of a search
 first_step : (records : List Record) (pair : Pair) (pairs : List Pair) (page hi : ℕ) → hi ≡ pair.hi
-    → shown_in records (slot_in (first_from pairs page)) ≡ first_area (areas_shown (map (shown_at records) pairs)) page
-    → shown_in records (slot_in (cond (nat_lt page pair.hi) (Some pair) (first_from pairs page)))
+    → shown_in records (slot_in (first_pair_from pairs page)) ≡ first_area (areas_shown (map (shown_at records) pairs)) page
+    → shown_in records (slot_in (cond (nat_lt page pair.hi) (Some pair) (first_pair_from pairs page)))
     ≡ cond (nat_lt page hi) (Some (area_in records pair.slot)) (first_area (areas_shown (map (shown_at records) pairs)) page)
 first_step records pair pairs page hi same later = elim (cases_Bool (nat_lt page pair.hi)) [
   | inl test ↦ let other : nat_lt page hi ≡ true = ap (λ (n : ℕ). nat_lt page n) same ∙ test in rw (test, other) refl
@@ -33,7 +33,7 @@ first_step records pair pairs page hi same later = elim (cases_Bool (nat_lt page
 
 -- the first area that ends above a page
 pub first_shown : (records : List Record) (pairs : List Pair) (page : ℕ) → AreRecords records pairs
-    → shown_in records (slot_in (first_from pairs page)) ≡ first_area (areas_shown (map (shown_at records) pairs)) page
+    → shown_in records (slot_in (first_pair_from pairs page)) ≡ first_area (areas_shown (map (shown_at records) pairs)) page
 first_shown records [] page spans = refl
 first_shown records (pair ∷ pairs) page spans =
     let span = All-head (λ (p : Pair). (area_in records p.slot).span ≡ span_of p) pair pairs spans in
@@ -71,12 +71,12 @@ last_shown records (first ∷ pairs) page pair area spans same =
         rw (test, other) passed
 
 pub before_shown : (records : List Record) (pairs : List Pair) (page : ℕ) → AreRecords records pairs
-    → shown_in records (slot_in (last_before pairs page)) ≡ last_area (areas_shown (map (shown_at records) pairs)) page
+    → shown_in records (slot_in (last_pair_before pairs page)) ≡ last_area (areas_shown (map (shown_at records) pairs)) page
 before_shown records pairs page spans = last_shown records pairs page None None spans refl
 
 -- the first pair that ends above where a pair begins is that pair
 itself : (slots limit start : ℕ) (pairs : List Pair) (k : ℕ) (d : Pair) → ArePairs slots limit start pairs → k < length pairs
-    → first_from pairs (get_or pairs k d).lo ≡ Some (get_or pairs k d)
+    → first_pair_from pairs (get_or pairs k d).lo ≡ Some (get_or pairs k d)
 itself slots limit start [] k d are below = absurd (omega (arith, below))
 itself slots limit start (pair ∷ pairs) zero d are below =
     let test : nat_lt pair.lo pair.hi ≡ true = lt-ltb pair.lo pair.hi are.1 in rw test refl
@@ -88,11 +88,11 @@ itself slots limit start (pair ∷ pairs) (suc k) d are below =
 -- the slot that shows an area
 pub slot_found : (records : List Record) (slots limit : ℕ) (area : Record) (pairs : List Pair) → ArePairs slots limit 0 pairs → AreRecords records pairs
     → Contains (areas_shown (map (shown_at records) pairs)) area
-    → (slot : ℕ) × (slot_in (first_from pairs area.span.lo) ≡ Some (record { 0 = slot }))
+    → (slot : ℕ) × (slot_in (first_pair_from pairs area.span.lo) ≡ Some (record { 0 = slot }))
     × Contains (map (shown_at records) pairs) (record { slot = slot; area = area })
 slot_found records slots limit area pairs are spans member = (
   pair.slot,
-  ap (λ (n : ℕ). slot_in (first_from pairs n)) (sym lo) ∙ ap slot_in (itself slots limit 0 pairs k none are below),
+  ap (λ (n : ℕ). slot_in (first_pair_from pairs n)) (sym lo) ∙ ap slot_in (itself slots limit 0 pairs k none are below),
   (
     k,
     omega (arith, length-map pairs (shown_at records), below),

@@ -13,12 +13,12 @@ use Rattle.node_slots.specs.declared.seats.NodeTable.{NodeTable}
 use Rattle.node_slots.specs.declared.seats.NodeWriter.{NodeWriter}
 use Rattle.node_slots.specs.declared.tree.Tree.{Tree}
 use Rattle.node_slots.specs.Trees.{first_root, empty_row, first_tree, grace_tree}
-use Rattle.node_slots.specs.Seats.{Writes, writer_state, row_count, is_present, pins_of, free_of}
+use Rattle.node_slots.specs.Seats.{WritesNodeTable, writer_state, row_count, is_present, pins_of, free_of}
 use Rattle.node_slots.specs.Built.{IsBlank, pairs_now}
 use Rattle.node_slots.proofs.Starting.{first_has, first_else}
 use Rattle.maple_write.proofs.Blanks.{blank_new}
 use Rattle.area_tree.specs.SpanTrees.{IsFreshWriter, size_for}
-use Rattle.area_tree.specs.SpanKept.{IsSpanTree, view_of}
+use Rattle.area_tree.specs.SpanKept.{IsSpanTree, span_view}
 use Rattle.area_tree.specs.Rows.{elapsed_of, shown_pairs}
 use Rattle.area_tree.proofs.Writing.{pairs_in, elapsed_most}
 use Rattle.area_tree.proofs.SpanFacts.{first_pairs}
@@ -74,7 +74,7 @@ fresh_elapsed areas writer fresh = omega (arith, elapsed_most writer, fresh_numb
 
 -- what the fields of a new tree keep
 pub fresh_spans : (areas : ℕ) (writer : NodeWriter) (nodes : NodeTable) (tree : Tree) → 1 ≤ areas → areas ≤ 65530 → IsFreshWriter areas writer
-    → Writes writer nodes → tree.root.0 ≡ 0 → tree.height ≡ 1 → 0 < tree.limit.0
+    → WritesNodeTable writer nodes → tree.root.0 ≡ 0 → tree.height ≡ 1 → 0 < tree.limit.0
     → IsSpanTree (record { nodes = nodes; writer = writer; tree = tree; areas = areas; number = 0; changed = false; roomy = false })
 fresh_spans areas writer nodes tree some_areas few_areas fresh writes root height some =
     let pairs = fresh_pairs areas writer tree fresh root height in
@@ -99,8 +99,8 @@ fresh_spans areas writer nodes tree some_areas few_areas fresh writes root heigh
 
 -- and what contracts see of it
 pub fresh_view : (areas : ℕ) (writer : NodeWriter) (nodes : NodeTable) (tree : Tree) (limit : Page) → IsFreshWriter areas writer
-    → Writes writer nodes → tree.root.0 ≡ 0 → tree.height ≡ 1 → tree.limit ≡ limit
-    → view_of (record { nodes = nodes; writer = writer; tree = tree; areas = areas; number = 0; changed = false; roomy = false })
+    → WritesNodeTable writer nodes → tree.root.0 ≡ 0 → tree.height ≡ 1 → tree.limit ≡ limit
+    → span_view (record { nodes = nodes; writer = writer; tree = tree; areas = areas; number = 0; changed = false; roomy = false })
     ≡ record {
       table = writer.writer_state.seat.table_id;
       areas = areas;

@@ -5,7 +5,7 @@ use Rattle.std.specs.List.{flat_map}
 use Rattle.std.proofs.lemmas.Bool.{lt-ltb, ne_eqb}
 use Rattle.std.proofs.lemmas.List.Elements.{All-cons, All-head, All-tail, All-weaker}
 use Rattle.maple_node.specs.Trees.{Pair}
-use Rattle.maple_node.specs.Pairs.{lower_part, upper_part, overwritten}
+use Rattle.maple_node.specs.Pairs.{pair_below, pair_from, overwritten}
 use Rattle.area_tree.specs.SpanTrees.{ArePairs}
 use Rattle.area_tree.proofs.Order.{IsPair, each_pair}
 use Rattle.area_tree.proofs.Storing.{OneSide, lower_away, upper_away, lower_none, upper_all, stays}
@@ -15,13 +15,13 @@ abbrev pub paged : ℕ → ℕ → Pair → Pair
 paged lo hi pair = record { lo = lo; hi = hi; slot = pair.slot }
 
 -- what is left of a pair that has pages on both sides of a page
-lower_cut : (page : ℕ) (pair : Pair) → pair.lo < page → page < pair.hi → lower_part page pair ≡ paged pair.lo page pair ∷ []
+lower_cut : (page : ℕ) (pair : Pair) → pair.lo < page → page < pair.hi → pair_below page pair ≡ paged pair.lo page pair ∷ []
 lower_cut page pair begins ends =
     let test : nat_lt pair.lo page ≡ true = lt-ltb pair.lo page begins in
     let all : min pair.hi page ≡ page = omega arith in
     rw (test, all) refl
 
-upper_cut : (page : ℕ) (pair : Pair) → pair.lo < page → page < pair.hi → upper_part page pair ≡ paged page pair.hi pair ∷ []
+upper_cut : (page : ℕ) (pair : Pair) → pair.lo < page → page < pair.hi → pair_from page pair ≡ paged page pair.hi pair ∷ []
 upper_cut page pair begins ends =
     let test : nat_lt page pair.hi ≡ true = lt-ltb page pair.hi ends in
     let all : max pair.lo page ≡ page = omega arith in
@@ -33,10 +33,10 @@ pub shrunk_above : (slots limit start : ℕ) (pairs : List Pair) (k : ℕ) (d : 
     → overwritten hi (get_or pairs k d).hi 0 pairs ≡ set pairs k (paged (get_or pairs k d).lo hi (get_or pairs k d))
 shrunk_above slots limit start [] k d hi are below begins ends = absurd (omega (arith, below))
 shrunk_above slots limit start (pair ∷ pairs) zero d hi are below begins ends =
-    ap (λ (ps : List Pair). (ps ++ flat_map (lower_part hi) pairs) ++ (upper_part pair.hi pair ++ flat_map (upper_part pair.hi) pairs)) (lower_cut hi pair begins ends)
-    ∙ ap (λ (ps : List Pair). paged pair.lo hi pair ∷ (ps ++ (upper_part pair.hi pair ++ flat_map (upper_part pair.hi) pairs)))
+    ap (λ (ps : List Pair). (ps ++ flat_map (pair_below hi) pairs) ++ (pair_from pair.hi pair ++ flat_map (pair_from pair.hi) pairs)) (lower_cut hi pair begins ends)
+    ∙ ap (λ (ps : List Pair). paged pair.lo hi pair ∷ (ps ++ (pair_from pair.hi pair ++ flat_map (pair_from pair.hi) pairs)))
     (lower_none slots limit pair.hi hi pairs are.3 (omega (arith, ends)))
-    ∙ ap (λ (ps : List Pair). paged pair.lo hi pair ∷ (ps ++ flat_map (upper_part pair.hi) pairs)) (upper_away pair.hi pair (omega arith))
+    ∙ ap (λ (ps : List Pair). paged pair.lo hi pair ∷ (ps ++ flat_map (pair_from pair.hi) pairs)) (upper_away pair.hi pair (omega arith))
     ∙ ap (λ (ps : List Pair). paged pair.lo hi pair ∷ ps) (upper_all slots limit pair.hi pair.hi pairs are.3 (omega arith))
 shrunk_above slots limit start (pair ∷ pairs) (suc k) d hi are below begins ends =
     let there = each_pair slots limit pair.hi pairs are.3 k d (omega (arith, below)) in
@@ -49,9 +49,9 @@ pub shrunk_below : (slots limit start : ℕ) (pairs : List Pair) (k : ℕ) (d : 
     → overwritten (get_or pairs k d).lo lo 0 pairs ≡ set pairs k (paged lo (get_or pairs k d).hi (get_or pairs k d))
 shrunk_below slots limit start [] k d lo are below begins ends = absurd (omega (arith, below))
 shrunk_below slots limit start (pair ∷ pairs) zero d lo are below begins ends =
-    ap (λ (ps : List Pair). (ps ++ flat_map (lower_part pair.lo) pairs) ++ (upper_part lo pair ++ flat_map (upper_part lo) pairs)) (lower_away pair.lo pair (omega arith))
-    ∙ ap (λ (ps : List Pair). ps ++ (upper_part lo pair ++ flat_map (upper_part lo) pairs)) (lower_none slots limit pair.hi pair.lo pairs are.3 (omega (arith, begins, ends)))
-    ∙ ap (λ (ps : List Pair). ps ++ flat_map (upper_part lo) pairs) (upper_cut lo pair begins ends)
+    ap (λ (ps : List Pair). (ps ++ flat_map (pair_below pair.lo) pairs) ++ (pair_from lo pair ++ flat_map (pair_from lo) pairs)) (lower_away pair.lo pair (omega arith))
+    ∙ ap (λ (ps : List Pair). ps ++ (pair_from lo pair ++ flat_map (pair_from lo) pairs)) (lower_none slots limit pair.hi pair.lo pairs are.3 (omega (arith, begins, ends)))
+    ∙ ap (λ (ps : List Pair). ps ++ flat_map (pair_from lo) pairs) (upper_cut lo pair begins ends)
     ∙ ap (λ (ps : List Pair). paged lo pair.hi pair ∷ ps) (upper_all slots limit pair.hi lo pairs are.3 (omega (arith, ends)))
 shrunk_below slots limit start (pair ∷ pairs) (suc k) d lo are below begins ends =
     let there = each_pair slots limit pair.hi pairs are.3 k d (omega (arith, below)) in

@@ -4,7 +4,7 @@ use Rattle.std.proofs.lemmas.Bool.{cond-true, cond-false}
 use Rattle.std.proofs.lemmas.Bool.Decides.{eqb_tells}
 use Rattle.std.proofs.lemmas.List.Elements.{All-head, All-tail}
 use Rattle.maple_node.specs.declared.item.NodeItem.{NodeItem}
-use Rattle.maple_node.specs.Nodes.{end_of, Ascends}
+use Rattle.maple_node.specs.Nodes.{items_end, Ascends}
 use Rattle.maple_node.specs.Trees.{Tree, Pair, IsLayout, pairs_from, pairs_of, entries_of}
 use Rattle.maple_node.proofs.Trees.{entries-ascend, entries-end}
 use Rattle.area_tree.specs.SpanTrees.{ArePairs}
@@ -15,7 +15,7 @@ pairs_before slots limit start other [] le are = omega (arith, le, are)
 pairs_before slots limit start other (pair ∷ pairs) le are = (omega (arith, le, are.0), are.1, are.2, are.3)
 
 -- the pairs of entries
-from_pairs : (slots limit start : ℕ) (entries : List NodeItem) → Ascends start entries → end_of start entries ≡ limit
+from_pairs : (slots limit start : ℕ) (entries : List NodeItem) → Ascends start entries → items_end start entries ≡ limit
     → All (λ (entry : NodeItem). entry.word ≤ slots) entries → ArePairs slots limit start (pairs_from start entries)
 from_pairs slots limit start [] ascends ends few = omega (arith, ends)
 from_pairs slots limit start (item ∷ entries) ascends ends few =

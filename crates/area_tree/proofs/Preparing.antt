@@ -4,7 +4,7 @@ use Rattle.maple_node.specs.Trees.{Pair}
 use Rattle.maple_node.specs.Pairs.{overwritten}
 use Rattle.node_slots.specs.declared.seats.NodeWriter.{NodeWriter}
 use Rattle.node_slots.specs.declared.tree.Tree.{Tree}
-use Rattle.node_slots.specs.Seats.{Writes, writer_state, free_of}
+use Rattle.node_slots.specs.Seats.{WritesNodeTable, writer_state, free_of}
 use Rattle.node_slots.specs.Built.{IsBuilt, IsWriters, pairs_now}
 use Rattle.maple_write.specs.Tables.{FillsRows}
 use Rattle.area_tree.specs.declared.spans.SpanTree.TheInside.{Inside}
@@ -48,7 +48,7 @@ gap_pairs fields lo hi kept none still = ap (overwritten lo hi 0) (first_pairs f
 
 -- and then a tree is built
 pub first_kept : (fields : Inside) (new : NodeWriter) (tree : Tree) (lo hi : ℕ) → IsSpanTree fields → fields.number ≡ 0 → fields.changed ≡ false
-    → enough fields.areas ≤ length (free_of fields.writer) → Writes new fields.nodes → FillsRows fields.writer new → IsBuilt new tree
+    → enough fields.areas ≤ length (free_of fields.writer) → WritesNodeTable new fields.nodes → FillsRows fields.writer new → IsBuilt new tree
     → tree.limit ≡ fields.tree.limit → pairs_now new tree ≡ overwritten lo hi 0 (pairs_now fields.writer fields.tree)
     → IsSpanTree (record fields { writer = new; tree = tree; changed = true; roomy = true })
 first_kept fields new tree lo hi kept none still free writes stores built limit pairs =

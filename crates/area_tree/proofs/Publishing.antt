@@ -9,7 +9,7 @@ use Rattle.node_slots.specs.declared.seats.NodeWriter.{NodeWriter}
 use Rattle.node_slots.specs.declared.tree.Tree.{Tree}
 use Rattle.node_slots.specs.Trees.{shown_rows}
 use Rattle.node_slots.specs.Views.{publish_at}
-use Rattle.node_slots.specs.Seats.{Writes, sight, writer_state, free_of, left_of, row_count, is_present, is_waiting, is_kept, count_of, next_root, next_shown}
+use Rattle.node_slots.specs.Seats.{WritesNodeTable, node_sight, writer_state, free_of, retired_rows, row_count, is_present, is_waiting, is_kept, one_where, next_root, next_shown}
 use Rattle.node_slots.specs.Built.{IsBuilt, built_rows, pairs_now}
 use Rattle.node_slots.proofs.Writers.{times_same}
 use Rattle.area_tree.specs.declared.spans.SpanTree.TheInside.{Inside}
@@ -20,9 +20,9 @@ use Rattle.area_tree.proofs.Writing.{pairs_in, pairs_same, built_rows_same, elap
 
 -- a publish of the tree that the writer built
 pub record Publishes (old new : NodeWriter) (tree : Tree) : Type 0 where
-  pub view : sight new ≡ publish_at (sight old) (next_root old tree.root.0 tree.height)
+  pub view : node_sight new ≡ publish_at (node_sight old) (next_root old tree.root.0 tree.height)
   pub free : free_of new ≡ free_of old
-  pub left : left_of new ≡ left_of old
+  pub left : retired_rows new ≡ retired_rows old
   pub built : IsBuilt new tree
 
 published_size : (old new : NodeWriter) (tree : Tree) → Publishes old new tree → row_count new ≡ row_count old
@@ -34,7 +34,7 @@ unfolding pairs_in
 published_shown old new tree is = ap (λ (v : NodeView). pairs_in v.known.writer_state.tree v.known.root) is.view
 
 -- and its rows are those that are neither free nor left
-has_kept : (count : ℕ) (kept : Bool) → count ≡ count_of kept → nat_lt 0 count ≡ kept
+has_kept : (count : ℕ) (kept : Bool) → count ≡ one_where kept → nat_lt 0 count ≡ kept
 has_kept count true is = lt-ltb 0 count (omega (arith, is))
 has_kept count false is = le-ltb 0 count (omega (arith, is))
 
@@ -44,7 +44,7 @@ published_rest old new tree is row =
     let words = ap (λ (v : NodeView). v.known.writer_state.words) is.view in
     let rows : (writer_state new).tree.rows ≡ built_rows old tree = ap (λ (v : NodeView). v.known.writer_state.tree.rows) is.view in
     let same : built_rows new tree ≡ built_rows old tree = built_rows_same old new tree words in
-    let count : times row (writer_state new).tree.rows ≡ count_of (is_kept new row) =
+    let count : times row (writer_state new).tree.rows ≡ one_where (is_kept new row) =
     ap (times row) (rows ∙ sym same) ∙ sym (times_same row (built_rows new tree)) ∙ is.built.reached row in
     has_kept (times row (writer_state new).tree.rows) (is_kept new row) count
 
@@ -52,21 +52,21 @@ published_rest old new tree is row =
 published_since : (old new : NodeWriter) (tree : Tree) → Publishes old new tree → (row : ℕ) → is_waiting new row ≡ true
     → elapsed_of old ≤ since_at (writer_state new).since row - 1
 published_since old new tree is row waits =
-    let parts = and_parts (nat_lt 0 (times row (left_of new))) (not (is_present new row)) waits in
+    let parts = and_parts (nat_lt 0 (times row (retired_rows new))) (not (is_present new row)) waits in
     let next = next_tree (writer_state old) ((writer_state old).tree.number + 1) (shown_rows (next_shown old tree.root.0 tree.height)) in
     let since : since_at (writer_state new).since row ≡ since_at (since_from 0 (writer_state old).tree next (writer_state old).since) row =
     ap (λ (v : NodeView). since_at v.known.writer_state.since row) is.view in
     let out : has_row next row ≡ false = sym (ap (λ (v : NodeView). has_row v.known.writer_state.tree row) is.view) ∙ not-true (is_present new row) parts.1 in
-    let left : nat_lt 0 (times row (left_of old)) ≡ true = ap (λ rows. nat_lt 0 (times row rows)) (sym is.left) ∙ parts.0 in
+    let left : nat_lt 0 (times row (retired_rows old)) ≡ true = ap (λ rows. nat_lt 0 (times row rows)) (sym is.left) ∙ parts.0 in
     elim (cases_Bool (is_present old row)) [
       | inl here ↦
-          let within = gone_within old row (let some = ltb-true 0 (times row (left_of old)) left in omega (arith, some)) in
+          let within = gone_within old row (let some = ltb-true 0 (times row (retired_rows old)) left in omega (arith, some)) in
           let new_one = since_left (writer_state old).tree next (writer_state old).since row (omega (arith, within, old.writer_state.kept.since, ap (λ s. s.rows) old.writer_state.kept.size_is)) here out in
           let most = elapsed_most old in
           omega (arith, since, new_one, most)
       | inr was_out ↦
           let same = since_same (writer_state old).tree next (writer_state old).since row was_out in
-          let was : is_waiting old row ≡ true = and_from (nat_lt 0 (times row (left_of old))) (not (is_present old row)) left (not_from_false (is_present old row) was_out) in
+          let was : is_waiting old row ≡ true = and_from (nat_lt 0 (times row (retired_rows old))) (not (is_present old row)) left (not_from_false (is_present old row) was_out) in
           let below = elapsed_below old row (waiting_within old row was) was in
           omega (arith, since, same, below)
     ]
@@ -77,7 +77,7 @@ published_elapsed old new tree is =
     (published_size old new tree is) (published_since old new tree is)
 
 -- a publish keeps what the fields keep
-pub published_kept : (fields : Inside) (new : NodeWriter) → Writes new fields.nodes → Publishes fields.writer new fields.tree
+pub published_kept : (fields : Inside) (new : NodeWriter) → WritesNodeTable new fields.nodes → Publishes fields.writer new fields.tree
     → IsSpanTree fields
     → IsSpanTree (record fields { writer = new; number = fields.number + 1; changed = false; roomy = false })
 published_kept fields new writes is kept =

@@ -6,15 +6,15 @@ use Rattle.std.proofs.lemmas.Bool.{cases_lt, lt-ltb, le-ltb}
 use Rattle.std.proofs.lemmas.Grind.{flat_map-append}
 use Rattle.std.proofs.lemmas.List.Elements.{All-nil, All-cons, All-append}
 use Rattle.maple_node.specs.Trees.{Pair, pair_of}
-use Rattle.maple_node.specs.Pairs.{lower_part, upper_part, overwritten}
+use Rattle.maple_node.specs.Pairs.{pair_below, pair_from, overwritten}
 use Rattle.area_tree.specs.SpanTrees.{ArePairs}
 use Rattle.area_tree.proofs.Storing.{OneSide, lower_away, lower_none, upper_all, upper_away, stays}
 
 -- a part of a part of a pair
-lower_twice : (low page : ℕ) (pair : Pair) → low ≤ page → flat_map (lower_part low) (lower_part page pair) ≡ lower_part low pair
+lower_twice : (low page : ℕ) (pair : Pair) → low ≤ page → flat_map (pair_below low) (pair_below page pair) ≡ pair_below low pair
 lower_twice low page pair order = by (cases_lt pair.lo low) (cases_lt pair.lo page)
   where
-    by : ((pair.lo < low) ⊎ (low ≤ pair.lo)) → ((pair.lo < page) ⊎ (page ≤ pair.lo)) → flat_map (lower_part low) (lower_part page pair) ≡ lower_part low pair
+    by : ((pair.lo < low) ⊎ (low ≤ pair.lo)) → ((pair.lo < page) ⊎ (page ≤ pair.lo)) → flat_map (pair_below low) (pair_below page pair) ≡ pair_below low pair
     by (inl some) first =
         let one : nat_lt pair.lo page ≡ true = lt-ltb pair.lo page (omega (arith, some, order)) in
         let two : nat_lt pair.lo low ≡ true = lt-ltb pair.lo low some in
@@ -29,7 +29,7 @@ lower_twice low page pair order = by (cases_lt pair.lo low) (cases_lt pair.lo pa
         let two : nat_lt pair.lo low ≡ false = le-ltb pair.lo low none in
         rw (one, two) refl
 
-upper_twice : (page high : ℕ) (pair : Pair) → page ≤ high → flat_map (upper_part page) (upper_part high pair) ≡ upper_part high pair
+upper_twice : (page high : ℕ) (pair : Pair) → page ≤ high → flat_map (pair_from page) (pair_from high pair) ≡ pair_from high pair
 upper_twice page high pair order = elim (cases_lt high pair.hi) [
   | inl some ↦ let one : nat_lt high pair.hi ≡ true = lt-ltb high pair.hi some in
       let two : nat_lt page pair.hi ≡ true = lt-ltb page pair.hi (omega (arith, some, order)) in
@@ -38,7 +38,7 @@ upper_twice page high pair order = elim (cases_lt high pair.hi) [
   | inr none ↦ let one : nat_lt high pair.hi ≡ false = le-ltb high pair.hi none in rw one refl
 ]
 
-lower_of_upper : (page high : ℕ) (pair : Pair) → page ≤ high → flat_map (lower_part page) (upper_part high pair) ≡ []
+lower_of_upper : (page high : ℕ) (pair : Pair) → page ≤ high → flat_map (pair_below page) (pair_from high pair) ≡ []
 lower_of_upper page high pair order = elim (cases_lt high pair.hi) [
   | inl some ↦ let one : nat_lt high pair.hi ≡ true = lt-ltb high pair.hi some in
       let two : nat_lt (max pair.lo high) page ≡ false = le-ltb (max pair.lo high) page (omega (arith, order)) in
@@ -46,7 +46,7 @@ lower_of_upper page high pair order = elim (cases_lt high pair.hi) [
   | inr none ↦ let one : nat_lt high pair.hi ≡ false = le-ltb high pair.hi none in rw one refl
 ]
 
-upper_of_lower : (low page : ℕ) (pair : Pair) → low ≤ page → flat_map (upper_part page) (lower_part low pair) ≡ []
+upper_of_lower : (low page : ℕ) (pair : Pair) → low ≤ page → flat_map (pair_from page) (pair_below low pair) ≡ []
 upper_of_lower low page pair order = elim (cases_lt pair.lo low) [
   | inl some ↦ let one : nat_lt pair.lo low ≡ true = lt-ltb pair.lo low some in
       let two : nat_lt page (min pair.hi low) ≡ false = le-ltb page (min pair.hi low) (omega (arith, order)) in
@@ -72,35 +72,35 @@ each_none f g none (pair ∷ pairs) =
 -- pages are overwritten that adjoin a gap or are its first: what is left is that below them and that above the gap
 twice : (lo up down hi word : ℕ) (pairs : List Pair) → lo ≤ down → down ≤ up → up ≤ hi
     → overwritten lo up word (overwritten down hi 0 pairs)
-    ≡ flat_map (lower_part lo) pairs ++ (pair_of lo (record { end = up; word = word; gap = 0 }) ++ flat_map (upper_part hi) pairs)
+    ≡ flat_map (pair_below lo) pairs ++ (pair_of lo (record { end = up; word = word; gap = 0 }) ++ flat_map (pair_from hi) pairs)
 twice lo up down hi word pairs low order high =
-    ap (λ (ps : List Pair). ps ++ (middle ++ flat_map (upper_part up) (below ++ above))) lower
-    ∙ ap (λ (ps : List Pair). flat_map (lower_part lo) pairs ++ (middle ++ ps)) upper
+    ap (λ (ps : List Pair). ps ++ (middle ++ flat_map (pair_from up) (below ++ above))) lower
+    ∙ ap (λ (ps : List Pair). flat_map (pair_below lo) pairs ++ (middle ++ ps)) upper
   where
     below : List Pair
-    below = flat_map (lower_part down) pairs
+    below = flat_map (pair_below down) pairs
 
     above : List Pair
-    above = flat_map (upper_part hi) pairs
+    above = flat_map (pair_from hi) pairs
 
     middle : List Pair
     middle = pair_of lo (record { end = up; word = word; gap = 0 })
 
-    lower : flat_map (lower_part lo) (below ++ above) ≡ flat_map (lower_part lo) pairs
+    lower : flat_map (pair_below lo) (below ++ above) ≡ flat_map (pair_below lo) pairs
     lower =
-        flat_map-append (lower_part lo) below above
-        ∙ ap (λ (ps : List Pair). ps ++ flat_map (lower_part lo) above)
-        (each_part (lower_part down) (lower_part lo) (lower_part lo) (λ pair. lower_twice lo down pair low) pairs)
-        ∙ ap (λ (ps : List Pair). flat_map (lower_part lo) pairs ++ ps)
-        (each_none (upper_part hi) (lower_part lo) (λ pair. lower_of_upper lo hi pair (omega (arith, low, order, high))) pairs)
-        ∙ append-nil (flat_map (lower_part lo) pairs)
+        flat_map-append (pair_below lo) below above
+        ∙ ap (λ (ps : List Pair). ps ++ flat_map (pair_below lo) above)
+        (each_part (pair_below down) (pair_below lo) (pair_below lo) (λ pair. lower_twice lo down pair low) pairs)
+        ∙ ap (λ (ps : List Pair). flat_map (pair_below lo) pairs ++ ps)
+        (each_none (pair_from hi) (pair_below lo) (λ pair. lower_of_upper lo hi pair (omega (arith, low, order, high))) pairs)
+        ∙ append-nil (flat_map (pair_below lo) pairs)
 
-    upper : flat_map (upper_part up) (below ++ above) ≡ above
+    upper : flat_map (pair_from up) (below ++ above) ≡ above
     upper =
-        flat_map-append (upper_part up) below above
-        ∙ ap (λ (ps : List Pair). ps ++ flat_map (upper_part up) above)
-        (each_none (lower_part down) (upper_part up) (λ pair. upper_of_lower down up pair order) pairs)
-        ∙ each_part (upper_part hi) (upper_part up) (upper_part hi) (λ pair. upper_twice up hi pair high) pairs
+        flat_map-append (pair_from up) below above
+        ∙ ap (λ (ps : List Pair). ps ++ flat_map (pair_from up) above)
+        (each_none (pair_below down) (pair_from up) (λ pair. upper_of_lower down up pair order) pairs)
+        ∙ each_part (pair_from hi) (pair_from up) (pair_from hi) (λ pair. upper_twice up hi pair high) pairs
 
 -- a slot over a gap
 pub over_gap : (lo hi word : ℕ) (pairs : List Pair) → lo ≤ hi → overwritten lo hi word (overwritten lo hi 0 pairs) ≡ overwritten lo hi word pairs
@@ -111,14 +111,14 @@ pub two_gaps : (lo mid hi : ℕ) (pairs : List Pair) → lo ≤ mid → mid ≤ 
 two_gaps lo mid hi pairs low high = twice lo mid mid hi 0 pairs low (omega arith) high
 
 -- no pair has a page of a gap
-lower_aside : (lo hi : ℕ) (pair : Pair) → All (OneSide lo hi) (lower_part lo pair)
+lower_aside : (lo hi : ℕ) (pair : Pair) → All (OneSide lo hi) (pair_below lo pair)
 lower_aside lo hi pair = elim (cases_lt pair.lo lo) [
   | inl some ↦ let test : nat_lt pair.lo lo ≡ true = lt-ltb pair.lo lo some in
       rw test (All-cons (OneSide lo hi) (record { lo = pair.lo; hi = min pair.hi lo; slot = pair.slot }) [] (inr (omega arith)) (All-nil (OneSide lo hi)))
   | inr none ↦ let test : nat_lt pair.lo lo ≡ false = le-ltb pair.lo lo none in rw test (All-nil (OneSide lo hi))
 ]
 
-upper_aside : (lo hi : ℕ) (pair : Pair) → All (OneSide lo hi) (upper_part hi pair)
+upper_aside : (lo hi : ℕ) (pair : Pair) → All (OneSide lo hi) (pair_from hi pair)
 upper_aside lo hi pair = elim (cases_lt hi pair.hi) [
   | inl some ↦ let test : nat_lt hi pair.hi ≡ true = lt-ltb hi pair.hi some in
       rw test (All-cons (OneSide lo hi) (record { lo = max pair.lo hi; hi = pair.hi; slot = pair.slot }) [] (inl (omega arith)) (All-nil (OneSide lo hi)))
@@ -131,12 +131,12 @@ each_aside lo hi f sides (pair ∷ pairs) = All-append (OneSide lo hi) (f pair) 
 
 pub aside : (lo hi : ℕ) (pairs : List Pair) → All (OneSide lo hi) (overwritten lo hi 0 pairs)
 aside lo hi pairs =
-    All-append (OneSide lo hi) (flat_map (lower_part lo) pairs) (flat_map (upper_part hi) pairs)
-    (each_aside lo hi (lower_part lo) (lower_aside lo hi) pairs) (each_aside lo hi (upper_part hi) (upper_aside lo hi) pairs)
+    All-append (OneSide lo hi) (flat_map (pair_below lo) pairs) (flat_map (pair_from hi) pairs)
+    (each_aside lo hi (pair_below lo) (lower_aside lo hi) pairs) (each_aside lo hi (pair_from hi) (upper_aside lo hi) pairs)
 
 -- the parts of pairs from a page on are in order
 upper_order : (slots limit start from page : ℕ) (pairs : List Pair) → ArePairs slots limit start pairs → from ≤ max start page → page ≤ limit
-    → ArePairs slots limit from (flat_map (upper_part page) pairs)
+    → ArePairs slots limit from (flat_map (pair_from page) pairs)
 upper_order slots limit start from page [] are begins upto = omega (arith, are, begins, upto)
 upper_order slots limit start from page (pair ∷ pairs) are begins upto = elim (cases_lt page pair.hi) [
   | inl some ↦ let test : nat_lt page pair.hi ≡ true = lt-ltb page pair.hi some in

@@ -16,7 +16,7 @@ use Rattle.area_tree.specs.declared.shown.ShownArea.{ShownArea}
 use Rattle.area_tree.specs.declared.tree.AreaTree.TheInside.{Inside}
 use Rattle.maple_gap.specs.Gaps.{span_of}
 use Rattle.area_tree.specs.AreaTrees.{AreaTreeView, area_in, no_area, shown_at, shown_of, areas_of, areas_shown, times_shown, AreRecords, IsEndOf, IsRoomFor, beside}
-use Rattle.area_tree.specs.Kept.{view_of, IsAreaTree}
+use Rattle.area_tree.specs.Kept.{area_tree_view, IsAreaTree}
 use Rattle.area_tree.proofs.Order.{each_pair, contained}
 use Rattle.area_tree.proofs.Storing.{OneSide}
 use Rattle.area_tree.proofs.Showing.{slots_of, unshown, unshown_spans, free_sides, one_here, slot_within}
@@ -179,7 +179,7 @@ beside_within part whole limit (some, inr (more, ends)) upto =
     rw test (more, omega (arith, some, ends, upto))
 
 -- the same of a tree
-module _ (fields : Inside) (view : AreaTreeView) (old : Record) (shown : ShownArea) (kept : IsAreaTree fields) (is : view_of fields ≡ view) (order : InOrder fields)
+module _ (fields : Inside) (view : AreaTreeView) (old : Record) (shown : ShownArea) (kept : IsAreaTree fields) (is : area_tree_view fields ≡ view) (order : InOrder fields)
     (member : Contains (shown_of view) (record { slot = shown.slot; area = old })) (once : times_shown shown.slot (shown_of view) ≤ 1) where
   there : Contains (slots_of fields.records fields.tree.pairs) (record { slot = shown.slot; area = old })
   there = subst (λ (v : AreaTreeView). Contains (shown_of v) (record { slot = shown.slot; area = old })) (sym is) member

@@ -10,7 +10,7 @@ use Rattle.grace_core.specs.Core.{times, has_row}
 use Rattle.node_slots.specs.declared.view.NodeView.{NodeView}
 use Rattle.node_slots.specs.declared.seats.NodeWriter.{NodeWriter}
 use Rattle.node_slots.specs.Views.{scan_at, scan_from}
-use Rattle.node_slots.specs.Seats.{sight, writer_state, free_of, left_of, row_count, is_present, pins_of, AreOut, HasOpen}
+use Rattle.node_slots.specs.Seats.{node_sight, writer_state, free_of, retired_rows, row_count, is_present, pins_of, AreOut, HasOpen}
 use Rattle.area_tree.specs.Rows.{IsSameTree, Scans, IsScanned}
 
 -- scans of pins change what is known of readers alone
@@ -47,31 +47,31 @@ times_both : (row : ℕ) (rows others : List ℕ) → times row (rows ++ others)
 times_both row rows others = sum_by-append (λ n. cond (nat_eq n row) 1 0) rows others
 
 -- one scan, which frees the rows that were left first
-pub scan_scans : (old new : NodeWriter) (pins rows : List ℕ) → sight new ≡ scan_from 0 pins (sight old)
-    → free_of new ≡ free_of old ++ rows → left_of old ≡ rows ++ left_of new → Scans old new
+pub scan_scans : (old new : NodeWriter) (pins rows : List ℕ) → node_sight new ≡ scan_from 0 pins (node_sight old)
+    → free_of new ≡ free_of old ++ rows → retired_rows old ≡ rows ++ retired_rows new → Scans old new
 scan_scans old new pins rows view freed left =
-    let same : IsSameTree (sight old) (sight new) = subst (IsSameTree (sight old)) (sym view) (same_scanned 0 pins (sight old)) in
+    let same : IsSameTree (node_sight old) (node_sight new) = subst (IsSameTree (node_sight old)) (sym view) (same_scanned 0 pins (node_sight old)) in
     let more : (row : ℕ) → times row (free_of new) ≡ times row (free_of old) + times row rows = λ row.
     ap (times row) freed ∙ times_both row (free_of old) rows in
-    let less : (row : ℕ) → times row (left_of old) ≡ times row rows + times row (left_of new) = λ row.
-    ap (times row) left ∙ times_both row rows (left_of new) in
+    let less : (row : ℕ) → times row (retired_rows old) ≡ times row rows + times row (retired_rows new) = λ row.
+    ap (times row) left ∙ times_both row rows (retired_rows new) in
     record {
       same = same;
       kept = λ row.
-          let gone : times row (free_of new) + times row (left_of new) ≡ times row (free_of old) + times row (left_of old) =
+          let gone : times row (free_of new) + times row (retired_rows new) ≡ times row (free_of old) + times row (retired_rows old) =
           omega (arith, more row, less row) in
-          ap (λ n. nat_lt row n && nat_eq (times row (free_of new) + times row (left_of new)) 0) (ap (λ s. s.rows) same.size)
+          ap (λ n. nat_lt row n && nat_eq (times row (free_of new) + times row (retired_rows new)) 0) (ap (λ s. s.rows) same.size)
           ∙ ap (λ n. nat_lt row (row_count old) && nat_eq n 0) gone;
       waits = λ row is.
-          let parts = and_parts (nat_lt 0 (times row (left_of new))) (not (is_present new row)) is in
-          let here : 0 < times row (left_of new) = ltb-true 0 (times row (left_of new)) parts.0 in
-          and_from (nat_lt 0 (times row (left_of old))) (not (is_present old row))
-          (lt-ltb 0 (times row (left_of old)) (omega (arith, here, less row)))
+          let parts = and_parts (nat_lt 0 (times row (retired_rows new))) (not (is_present new row)) is in
+          let here : 0 < times row (retired_rows new) = ltb-true 0 (times row (retired_rows new)) parts.0 in
+          and_from (nat_lt 0 (times row (retired_rows old))) (not (is_present old row))
+          (lt-ltb 0 (times row (retired_rows old)) (omega (arith, here, less row)))
           (subst (λ t. not (has_row t row) ≡ true) same.tree parts.1);
     }
 
 -- there is a pin for each reader
-pub pins_long : (writer : NodeWriter) → length (pins_of writer) ≡ (sight writer).size.readers
+pub pins_long : (writer : NodeWriter) → length (pins_of writer) ≡ (node_sight writer).size.readers
 pins_long writer =
     length-map (writer_state writer).clearings (λ (found : Clearing). found.pin) ∙ ap (λ (l : List Clearing). length l) writer.writer_state.kept.clearings_are
     ∙ writer.writer_state.kept.readers ∙ sym (ap (λ s. s.readers) writer.writer_state.kept.size_is)
@@ -84,10 +84,10 @@ looks : (reader : ℕ) (pins : List ℕ) (view : NodeView) → (scan_from reader
 looks reader [] view = omega arith
 looks reader (found ∷ pins) view = let rest = looks (reader + 1) pins (scan_at view reader found) in omega (arith, rest)
 
-pub scan_looks : (old new : NodeWriter) (pins : List ℕ) → sight new ≡ scan_from 0 pins (sight old) → length pins ≡ (sight old).size.readers
+pub scan_looks : (old new : NodeWriter) (pins : List ℕ) → node_sight new ≡ scan_from 0 pins (node_sight old) → length pins ≡ (node_sight old).size.readers
     → IsScanned old new
-scan_looks old new pins view long = ap (λ (v : NodeView). v.scans) view ∙ looks 0 pins (sight old)
-    ∙ ap (λ n. (sight old).scans + n) (long ∙ sym (pins_long old))
+scan_looks old new pins view long = ap (λ (v : NodeView). v.scans) view ∙ looks 0 pins (node_sight old)
+    ∙ ap (λ n. (node_sight old).scans + n) (long ∙ sym (pins_long old))
 
 -- every pin is even, or one is odd
 even_or_odd : (pin : ℕ) → (pin % 2 ≡ 0) ⊎ (pin % 2 ≡ 1)
@@ -120,8 +120,8 @@ times_one tries n = grind arith
 
 -- one try more looks at each pin once more
 pub tries_more : (first mid last : NodeWriter) (tries : ℕ) → Scans first mid → IsScanned mid last
-    → (sight mid).scans ≡ (sight first).scans + tries * length (pins_of first)
-    → (sight last).scans ≡ (sight first).scans + (tries + 1) * length (pins_of first)
+    → (node_sight mid).scans ≡ (node_sight first).scans + tries * length (pins_of first)
+    → (node_sight last).scans ≡ (node_sight first).scans + (tries + 1) * length (pins_of first)
 tries_more first mid last tries scans scanned so_far =
     let same = pins_same first mid scans in
     let more = times_one tries (length (pins_of first)) in

@@ -6,7 +6,7 @@ use Rattle.maple_node.specs.Trees.{Pair, IsFirst}
 use Rattle.maple_node.proofs.Trees.{first-pairs}
 use Rattle.node_slots.specs.declared.seats.NodeWriter.{NodeWriter}
 use Rattle.node_slots.specs.declared.tree.Tree.{Tree}
-use Rattle.node_slots.specs.Seats.{Writes, sight, writer_state, is_waiting, row_count}
+use Rattle.node_slots.specs.Seats.{WritesNodeTable, node_sight, writer_state, is_waiting, row_count}
 use Rattle.node_slots.specs.Built.{IsBuilt, IsWriters, words_at, built, pairs_now}
 use Rattle.area_tree.specs.declared.spans.SpanTree.TheInside.{Inside}
 use Rattle.area_tree.specs.SpanTrees.{ArePairs, enough}
@@ -18,7 +18,7 @@ use Rattle.area_tree.proofs.Counts.{waiting_within, rest_free}
 use Rattle.area_tree.proofs.Writing.{shown_same, present_same, spare_more, elapsed_more, elapsed_below, pairs_same, scanned_built, scanned_writers}
 
 -- scans keep what the fields keep
-pub scanned_kept : (fields : Inside) (new : NodeWriter) → Writes new fields.nodes → Scans fields.writer new → IsSpanTree fields
+pub scanned_kept : (fields : Inside) (new : NodeWriter) → WritesNodeTable new fields.nodes → Scans fields.writer new → IsSpanTree fields
     → IsSpanTree (record fields { writer = new })
 scanned_kept fields new writes scans kept =
     let old : NodeWriter = fields.writer in
@@ -79,7 +79,7 @@ elapsed_is writer found most none greatest =
 pub built_pairs : (fields : Inside) → IsSpanTree fields → IsBuilt fields.writer fields.tree
     → ArePairs (2 * fields.areas + 2) fields.tree.limit.0 0 (pairs_now fields.writer fields.tree)
 built_pairs fields kept is =
-    let pairs = layout-pairs (words_at fields.writer) (sight fields.writer).size.slots (built fields.writer fields.tree) is.layout in
+    let pairs = layout-pairs (words_at fields.writer) (node_sight fields.writer).size.slots (built fields.writer fields.tree) is.layout in
     let at : ℕ → ℕ → Type 0 = λ slots limit. ArePairs slots limit 0 (pairs_now fields.writer fields.tree) in
     subst (at (2 * fields.areas + 2)) is.limit (subst (λ n. at n (built fields.writer fields.tree).top.end) kept.slots pairs)
 

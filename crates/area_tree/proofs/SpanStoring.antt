@@ -7,12 +7,12 @@ use Rattle.maple_node.specs.Trees.{Pair}
 use Rattle.node_slots.specs.declared.view.NodeView.{NodeView}
 use Rattle.node_slots.specs.declared.seats.NodeWriter.{NodeWriter}
 use Rattle.node_slots.specs.declared.tree.Tree.{Tree}
-use Rattle.node_slots.specs.Seats.{Writes, writer_state, is_waiting, row_count, free_of}
+use Rattle.node_slots.specs.Seats.{WritesNodeTable, writer_state, is_waiting, row_count, free_of}
 use Rattle.node_slots.specs.Built.{IsBuilt, pairs_now}
 use Rattle.maple_write.specs.Tables.{FillsRows}
 use Rattle.area_tree.specs.declared.spans.SpanTree.TheInside.{Inside}
 use Rattle.area_tree.specs.SpanTrees.{enough}
-use Rattle.area_tree.specs.SpanKept.{IsSpanTree, view_of}
+use Rattle.area_tree.specs.SpanKept.{IsSpanTree, span_view}
 use Rattle.area_tree.specs.Rows.{elapsed_of, spare_rows, shown_pairs}
 use Rattle.area_tree.proofs.Counts.{waiting_within}
 use Rattle.area_tree.proofs.Writing.{shown_same, spare_more, elapsed_more, elapsed_below}
@@ -48,7 +48,7 @@ stored_elapsed old new stores =
     omega (arith, up, down)
 
 -- a store keeps what the fields keep
-pub stored_kept : (fields : Inside) (new : NodeWriter) (tree : Tree) (roomy : Bool) → Writes new fields.nodes → FillsRows fields.writer new
+pub stored_kept : (fields : Inside) (new : NodeWriter) (tree : Tree) (roomy : Bool) → WritesNodeTable new fields.nodes → FillsRows fields.writer new
     → IsBuilt new tree → tree.limit ≡ fields.tree.limit → length (pairs_now new tree) ≤ fields.areas
     → enough fields.areas ≤ spare_rows fields.writer → IsSpanTree fields
     → IsSpanTree (record fields { writer = new; tree = tree; changed = true; roomy = roomy })
@@ -77,7 +77,7 @@ stored_kept fields new tree roomy writes stores built limit few room kept =
 -- what contracts see of it
 pub stored_view : (fields : Inside) (new : NodeWriter) (tree : Tree) (pairs : List Pair) → FillsRows fields.writer new → tree.limit ≡ fields.tree.limit
     → pairs_now new tree ≡ pairs
-    → view_of (record fields { writer = new; tree = tree; changed = true }) ≡ record (view_of fields) { pairs = pairs; changed = true; free = length (free_of new) }
+    → span_view (record fields { writer = new; tree = tree; changed = true }) ≡ record (span_view fields) { pairs = pairs; changed = true; free = length (free_of new) }
 stored_view fields new tree pairs stores limit is =
     let elapsed = stored_elapsed fields.writer new stores in
     let shown = stored_shown fields.writer new stores in

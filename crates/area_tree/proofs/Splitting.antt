@@ -12,7 +12,7 @@ use Rattle.area_tree.specs.SpanTrees.{SpanView, ArePairs}
 use Rattle.area_tree.specs.declared.shown.ShownArea.{ShownArea}
 use Rattle.area_tree.specs.declared.tree.AreaTree.TheInside.{Inside}
 use Rattle.area_tree.specs.AreaTrees.{AreaTreeView, shown_of, times_shown, AreRecords, IsEndOf, beside}
-use Rattle.area_tree.specs.Kept.{view_of, IsAreaTree}
+use Rattle.area_tree.specs.Kept.{area_tree_view, IsAreaTree}
 use Rattle.area_tree.proofs.Repeated.{over_gap, aside, around_gap}
 use Rattle.area_tree.proofs.Showing.{slots_of, later_perm, IsOneMore, put_aside}
 use Rattle.area_tree.proofs.Reshaped.{IsReshaped, record_below, shrunk_told, beside_within}
@@ -86,7 +86,7 @@ pub record CanSplit (view : AreaTreeView) (old : Record) (shown other : ShownAre
   pub free : times_shown other.slot (shown_of view) ≡ 0
 
 -- the same of a tree
-module _ (fields : Inside) (view : AreaTreeView) (old : Record) (shown other : ShownArea) (kept : IsAreaTree fields) (is : view_of fields ≡ view) (order : InOrder fields)
+module _ (fields : Inside) (view : AreaTreeView) (old : Record) (shown other : ShownArea) (kept : IsAreaTree fields) (is : area_tree_view fields ≡ view) (order : InOrder fields)
     (can : CanSplit view old shown other) where
   pub shown_below : shown.slot < length fields.records
   shown_below = record_below fields view old shown kept is order can.member can.once

@@ -5,50 +5,50 @@ use Rattle.std.specs.List.{flat_map, insert, remove}
 use Rattle.std.proofs.lemmas.Bool.{lt-ltb, le-ltb, ne_eqb}
 use Rattle.std.proofs.lemmas.List.Elements.{All-head, All-tail}
 use Rattle.maple_node.specs.Trees.{Pair, pair_of}
-use Rattle.maple_node.specs.Pairs.{lower_part, upper_part, overwritten}
+use Rattle.maple_node.specs.Pairs.{pair_below, pair_from, overwritten}
 use Rattle.area_tree.specs.SpanTrees.{ArePairs}
 use Rattle.area_tree.proofs.Order.{each_pair}
 
 -- what is left of a pair on one side of a page
-lower_whole : (page : ℕ) (pair : Pair) → pair.lo < pair.hi → pair.hi ≤ page → lower_part page pair ≡ pair ∷ []
+lower_whole : (page : ℕ) (pair : Pair) → pair.lo < pair.hi → pair.hi ≤ page → pair_below page pair ≡ pair ∷ []
 lower_whole page pair some upto =
     let test : nat_lt pair.lo page ≡ true = lt-ltb pair.lo page (omega arith) in
     let all : min pair.hi page ≡ pair.hi = omega arith in
     rw (test, all) refl
 
-pub lower_away : (page : ℕ) (pair : Pair) → page ≤ pair.lo → lower_part page pair ≡ []
+pub lower_away : (page : ℕ) (pair : Pair) → page ≤ pair.lo → pair_below page pair ≡ []
 lower_away page pair begins =
     let test : nat_lt pair.lo page ≡ false = le-ltb pair.lo page begins in rw test refl
 
-upper_whole : (page : ℕ) (pair : Pair) → pair.lo < pair.hi → page ≤ pair.lo → upper_part page pair ≡ pair ∷ []
+upper_whole : (page : ℕ) (pair : Pair) → pair.lo < pair.hi → page ≤ pair.lo → pair_from page pair ≡ pair ∷ []
 upper_whole page pair some begins =
     let test : nat_lt page pair.hi ≡ true = lt-ltb page pair.hi (omega arith) in
     let all : max pair.lo page ≡ pair.lo = omega arith in
     rw (test, all) refl
 
-pub upper_away : (page : ℕ) (pair : Pair) → pair.hi ≤ page → upper_part page pair ≡ []
+pub upper_away : (page : ℕ) (pair : Pair) → pair.hi ≤ page → pair_from page pair ≡ []
 upper_away page pair upto =
     let test : nat_lt page pair.hi ≡ false = le-ltb page pair.hi upto in rw test refl
 
 -- and of pairs above it
-pub lower_none : (slots limit start page : ℕ) (pairs : List Pair) → ArePairs slots limit start pairs → page ≤ start → flat_map (lower_part page) pairs ≡ []
+pub lower_none : (slots limit start page : ℕ) (pairs : List Pair) → ArePairs slots limit start pairs → page ≤ start → flat_map (pair_below page) pairs ≡ []
 lower_none slots limit start page [] are upto = refl
 lower_none slots limit start page (pair ∷ pairs) are upto =
-    ap (λ (ps : List Pair). ps ++ flat_map (lower_part page) pairs) (lower_away page pair (omega (arith, are.0)))
+    ap (λ (ps : List Pair). ps ++ flat_map (pair_below page) pairs) (lower_away page pair (omega (arith, are.0)))
     ∙ lower_none slots limit pair.hi page pairs are.3 (omega (arith, are.0, are.1))
 
-pub upper_all : (slots limit start page : ℕ) (pairs : List Pair) → ArePairs slots limit start pairs → page ≤ start → flat_map (upper_part page) pairs ≡ pairs
+pub upper_all : (slots limit start page : ℕ) (pairs : List Pair) → ArePairs slots limit start pairs → page ≤ start → flat_map (pair_from page) pairs ≡ pairs
 upper_all slots limit start page [] are upto = refl
 upper_all slots limit start page (pair ∷ pairs) are upto =
-    ap (λ (ps : List Pair). ps ++ flat_map (upper_part page) pairs) (upper_whole page pair are.1 (omega (arith, are.0)))
+    ap (λ (ps : List Pair). ps ++ flat_map (pair_from page) pairs) (upper_whole page pair are.1 (omega (arith, are.0)))
     ∙ ap (λ (ps : List Pair). pair ∷ ps) (upper_all slots limit pair.hi page pairs are.3 (omega (arith, are.0, are.1)))
 
 -- a pair below the pages stays
 pub stays : (lo hi word : ℕ) (pair : Pair) (pairs : List Pair) → pair.lo < pair.hi → pair.hi ≤ lo → lo < hi
     → overwritten lo hi word (pair ∷ pairs) ≡ pair ∷ overwritten lo hi word pairs
 stays lo hi word pair pairs some upto pages =
-    ap (λ (ps : List Pair). (ps ++ flat_map (lower_part lo) pairs) ++ (middle ++ (upper_part hi pair ++ flat_map (upper_part hi) pairs))) (lower_whole lo pair some upto)
-    ∙ ap (λ (ps : List Pair). pair ∷ (flat_map (lower_part lo) pairs ++ (middle ++ (ps ++ flat_map (upper_part hi) pairs)))) (upper_away hi pair (omega arith))
+    ap (λ (ps : List Pair). (ps ++ flat_map (pair_below lo) pairs) ++ (middle ++ (pair_from hi pair ++ flat_map (pair_from hi) pairs))) (lower_whole lo pair some upto)
+    ∙ ap (λ (ps : List Pair). pair ∷ (flat_map (pair_below lo) pairs ++ (middle ++ (ps ++ flat_map (pair_from hi) pairs)))) (upper_away hi pair (omega arith))
   where
     middle : List Pair
     middle = pair_of lo (record { end = hi; word = word; gap = 0 })
@@ -58,9 +58,9 @@ pub taken_out : (slots limit start : ℕ) (pairs : List Pair) (k : ℕ) (d : Pai
     → overwritten (get_or pairs k d).lo (get_or pairs k d).hi 0 pairs ≡ remove pairs k
 taken_out slots limit start [] k d are below = absurd (omega (arith, below))
 taken_out slots limit start (pair ∷ pairs) zero d are below =
-    ap (λ (ps : List Pair). (ps ++ flat_map (lower_part pair.lo) pairs) ++ (upper_part pair.hi pair ++ flat_map (upper_part pair.hi) pairs)) (lower_away pair.lo pair (omega arith))
-    ∙ ap (λ (ps : List Pair). ps ++ (upper_part pair.hi pair ++ flat_map (upper_part pair.hi) pairs)) (lower_none slots limit pair.hi pair.lo pairs are.3 (omega (arith, are.1)))
-    ∙ ap (λ (ps : List Pair). ps ++ flat_map (upper_part pair.hi) pairs) (upper_away pair.hi pair (omega arith))
+    ap (λ (ps : List Pair). (ps ++ flat_map (pair_below pair.lo) pairs) ++ (pair_from pair.hi pair ++ flat_map (pair_from pair.hi) pairs)) (lower_away pair.lo pair (omega arith))
+    ∙ ap (λ (ps : List Pair). ps ++ (pair_from pair.hi pair ++ flat_map (pair_from pair.hi) pairs)) (lower_none slots limit pair.hi pair.lo pairs are.3 (omega (arith, are.1)))
+    ∙ ap (λ (ps : List Pair). ps ++ flat_map (pair_from pair.hi) pairs) (upper_away pair.hi pair (omega arith))
     ∙ upper_all slots limit pair.hi pair.hi pairs are.3 (omega arith)
 taken_out slots limit start (pair ∷ pairs) (suc k) d are below =
     let there = each_pair slots limit pair.hi pairs are.3 k d (omega (arith, below)) in

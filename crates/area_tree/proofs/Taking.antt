@@ -12,7 +12,7 @@ use Rattle.area_tree.specs.SpanTrees.{SpanView, ArePairs}
 use Rattle.area_tree.specs.declared.shown.ShownArea.{ShownArea}
 use Rattle.area_tree.specs.declared.tree.AreaTree.TheInside.{Inside}
 use Rattle.area_tree.specs.AreaTrees.{AreaTreeView, area_in, shown_at, shown_of, areas_shown, AreRecords, Adjoin}
-use Rattle.area_tree.specs.Kept.{view_of, IsAreaTree}
+use Rattle.area_tree.specs.Kept.{area_tree_view, IsAreaTree}
 use Rattle.area_tree.proofs.Order.{IsPair, each_pair, contained}
 use Rattle.area_tree.proofs.Storing.{stays}
 use Rattle.area_tree.proofs.Repeated.{two_gaps, around_gap}
@@ -108,7 +108,7 @@ adjoin_some lo hi [] pages adjoin = absurd (omega (arith, pages, adjoin))
 adjoin_some lo hi (first ∷ others) pages adjoin = omega arith
 
 -- the same of a tree
-module _ (fields : Inside) (view : AreaTreeView) (kept : IsAreaTree fields) (is : view_of fields ≡ view) (order : InOrder fields) (lo hi : ℕ) where
+module _ (fields : Inside) (view : AreaTreeView) (kept : IsAreaTree fields) (is : area_tree_view fields ≡ view) (order : InOrder fields) (lo hi : ℕ) where
   some_taken : (taken : List ShownArea) → All (Contains (slots_of fields.records fields.tree.pairs)) taken → Adjoin lo hi (areas_shown taken) → 0 < length taken
       → AreLess fields.records fields.tree.limit lo hi taken fields.tree.pairs (overwritten lo hi 0 fields.tree.pairs)
   some_taken [] members adjoin some = absurd (omega (arith, some))

@@ -20,14 +20,14 @@ pub record AreaTreeView : Type 0 where
   pub sealed : Bool
 
 -- no access
-abbrev pub none : Prot
-none = record { read = false; write = false; exec = false }
+abbrev pub no_access : Prot
+no_access = record { read = false; write = false; exec = false }
 
 -- what a slot shows before it showed an area
 abbrev pub no_area : Record
 no_area = record {
   span = record { lo = 0; hi = 0 };
-  attr = record { prot = none; most = none; shared = false; grows = false; sealed = false; heap = false };
+  attr = record { prot = no_access; most = no_access; shared = false; grows = false; sealed = false; heap = false };
   object = 0;
   offset = 0;
 }

@@ -7,8 +7,8 @@ use Rattle.area_tree.specs.declared.tree.AreaTree.TheInside.{Inside}
 use Rattle.area_tree.specs.AreaTrees.{AreaTreeView, AreRecords}
 
 -- the tree of areas that the fields are
-abbrev pub view_of : Inside → AreaTreeView
-view_of fields = record { tree = fields.tree; records = fields.records; bounds = fields.bounds; sealed = fields.sealed }
+abbrev pub area_tree_view : Inside → AreaTreeView
+area_tree_view fields = record { tree = fields.tree; records = fields.records; bounds = fields.bounds; sealed = fields.sealed }
 
 -- Each slot of the tree shows an area with the pages of its pair. The count is theirs, the most areas are those of the tree,
 -- and there is a record for each slot. Areas are placed up to the tree's limit, and there is room to hand them out. Before a slot

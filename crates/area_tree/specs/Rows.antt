@@ -1,12 +1,13 @@
 -- What the rows of a writer's table are for, counted, and what stays so while pins are scanned.
-use Rattle.std.specs.Prelude.{ℕ, zero, suc, ◌≡◌, ◌<◌, ◌≤◌, ◌+◌, ◌-◌, min, Bool, true, false, not, ◌&&◌, if◌then◌else◌, List, length}
+use Rattle.std.specs.Prelude.{ℕ, zero, suc, ◌≡◌, ◌<◌, ◌≤◌, ◌+◌, Bool, true, false, not, ◌&&◌, nat_le, List, length, is_some, unwrap_or}
+use Rattle.area_rules.specs.Placement.{greatest_below, least_below}
 use Rattle.grace_core.specs.Core.{since_at}
-use Rattle.grace_core.specs.Steps.{least}
+use Rattle.grace_core.specs.Steps.{cleared_up_to}
 use Rattle.maple_node.specs.Levels.{at_of}
 use Rattle.maple_node.specs.Trees.{Pair, pairs_of, tree_of}
 use Rattle.node_slots.specs.declared.view.NodeView.{NodeView}
 use Rattle.node_slots.specs.declared.seats.NodeWriter.{NodeWriter}
-use Rattle.node_slots.specs.Seats.{sight, writer_state, row_count, is_present, is_waiting, is_kept, count_of, free_of, pins_of}
+use Rattle.node_slots.specs.Seats.{node_sight, writer_state, row_count, is_present, is_waiting, is_kept, one_where, free_of, pins_of}
 
 -- the sum of what each number below a limit gives
 unfoldable pub sum_below : (ℕ → ℕ) → ℕ → ℕ
@@ -19,21 +20,19 @@ is_spare writer row = not (is_present writer row) && not (is_waiting writer row)
 
 -- how many rows are spare
 abbrev pub spare_rows : NodeWriter → ℕ
-spare_rows writer = sum_below (λ row. count_of (is_spare writer row)) (row_count writer)
+spare_rows writer = sum_below (λ row. one_where (is_spare writer row)) (row_count writer)
 
--- the greatest number up to one that is below what each of some rows waits for
-unfoldable pub least_wait : (ℕ → Bool) → (ℕ → ℕ) → ℕ → ℕ → ℕ
-least_wait waits since number zero = number
-least_wait waits since number (suc row) =
-    if waits row then min (since row - 1) (least_wait waits since number row) else least_wait waits since number row
+-- whether a row waits that left at the publish of this tree or before
+abbrev pub holds_back : NodeWriter → ℕ → Bool
+holds_back writer tree = is_some (least_below (λ row. is_waiting writer row && nat_le (since_at (writer_state writer).since row) tree) (row_count writer))
 
--- the greatest tree, at most the present one, such that no row waits that left at its publish or before
+-- the greatest tree whose grace period has elapsed: at most the present one, and held back by no row
 abbrev pub elapsed_of : NodeWriter → ℕ
-elapsed_of writer = least_wait (is_waiting writer) (since_at (writer_state writer).since) (writer_state writer).tree.number (row_count writer)
+elapsed_of writer = unwrap_or (greatest_below (λ tree. not (holds_back writer tree)) ((writer_state writer).tree.number + 1)) 0
 
 -- the pairs of the present tree
 abbrev pub shown_pairs : NodeWriter → List Pair
-shown_pairs writer = let at = at_of (writer_state writer).tree.words in pairs_of at (tree_of at (sight writer).known.root)
+shown_pairs writer = let at = at_of (writer_state writer).tree.words in pairs_of at (tree_of at (node_sight writer).known.root)
 
 -- the same tree is present, in a table of the same size whose rows have the same words
 pub record IsSameTree (old new : NodeView) : Type 0 where
@@ -45,11 +44,11 @@ pub record IsSameTree (old new : NodeView) : Type 0 where
 
 -- a scan looked at the pin of each reader once
 abbrev pub IsScanned : NodeWriter → NodeWriter → Type 0
-IsScanned old new = (sight new).scans ≡ (sight old).scans + length (pins_of old)
+IsScanned old new = (node_sight new).scans ≡ (node_sight old).scans + length (pins_of old)
 
 -- each row that waits is held: some reader is not cleared up to the tree that left it out
 abbrev pub AreHeld : NodeWriter → Type 0
-AreHeld writer = (row : ℕ) → is_waiting writer row ≡ true → least (writer_state writer).tree.number (writer_state writer).clearings < since_at (writer_state writer).since row
+AreHeld writer = (row : ℕ) → is_waiting writer row ≡ true → cleared_up_to (writer_state writer).tree.number (writer_state writer).clearings < since_at (writer_state writer).since row
 
 -- no row waits
 abbrev pub NoneWaits : NodeWriter → Type 0
@@ -57,7 +56,7 @@ NoneWaits writer = (row : ℕ) → is_waiting writer row ≡ false
 
 -- between two times of a writer there were only scans: rows that waited may have become free, and nothing else changed
 pub record Scans (old new : NodeWriter) : Type 0 where
-  pub same : IsSameTree (sight old) (sight new)
+  pub same : IsSameTree (node_sight old) (node_sight new)
   pub kept : (row : ℕ) → is_kept new row ≡ is_kept old row
   pub waits : (row : ℕ) → is_waiting new row ≡ true → is_waiting old row ≡ true
 

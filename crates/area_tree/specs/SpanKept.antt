@@ -2,16 +2,16 @@
 use Rattle.std.specs.Prelude.{ℕ, ◌≡◌, ◌<◌, ◌≤◌, true, false, [], length}
 use Rattle.mm_types.specs.declared.config.TheConstants.{MOST_AREAS}
 use Rattle.mm_types.specs.Config.{rows_for, slots_for}
-use Rattle.node_slots.specs.Seats.{table_of, Writes, sight, writer_state, row_count, is_present, is_kept, pins_of, free_of}
+use Rattle.node_slots.specs.Seats.{node_table_id, WritesNodeTable, node_sight, writer_state, row_count, is_present, is_kept, pins_of, free_of}
 use Rattle.node_slots.specs.Built.{IsBuilt, IsWriters, pairs_now}
 use Rattle.area_tree.specs.declared.spans.SpanTree.TheInside.{Inside}
 use Rattle.area_tree.specs.SpanTrees.{SpanView, enough}
 use Rattle.area_tree.specs.Rows.{spare_rows, elapsed_of, shown_pairs}
 
 -- the tree that the fields are
-abbrev pub view_of : Inside → SpanView
-view_of fields = record {
-  table = table_of fields.nodes;
+abbrev pub span_view : Inside → SpanView
+span_view fields = record {
+  table = node_table_id fields.nodes;
   areas = fields.areas;
   limit = fields.tree.limit.0;
   number = fields.number;
@@ -20,7 +20,7 @@ view_of fields = record {
   shown = shown_pairs fields.writer;
   changed = fields.changed;
   roomy = fields.roomy;
-  scans = (sight fields.writer).scans;
+  scans = (node_sight fields.writer).scans;
   pins = pins_of fields.writer;
   free = length (free_of fields.writer);
 }
@@ -29,13 +29,13 @@ view_of fields = record {
 -- at most so many pairs. Where nothing was stored since the last publish, its rows and pairs are those of the present tree.
 -- Where the tree was prepared, it is built, and enough rows are spare.
 pub record IsSpanTree (fields : Inside) : Type 0 where
-  pub table : Writes fields.writer fields.nodes
+  pub table : WritesNodeTable fields.writer fields.nodes
   pub tree : IsWriters fields.writer fields.tree
   pub some_areas : 1 ≤ fields.areas
   pub few_areas : fields.areas ≤ MOST_AREAS
   pub some_pages : 0 < fields.tree.limit.0
   pub rows : row_count fields.writer ≡ rows_for fields.areas
-  pub slots : (sight fields.writer).size.slots ≡ slots_for fields.areas
+  pub slots : (node_sight fields.writer).size.slots ≡ slots_for fields.areas
   pub number : (writer_state fields.writer).tree.number ≡ fields.number
   pub few_pairs : length (pairs_now fields.writer fields.tree) ≤ fields.areas
   pub first : fields.number ≡ 0 → shown_pairs fields.writer ≡ []

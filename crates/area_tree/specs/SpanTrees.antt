@@ -5,9 +5,9 @@ use Rattle.maple_node.specs.Trees.{Pair}
 use Rattle.atomic_table.specs.Seated.{TableId}
 use Rattle.node_slots.specs.declared.view.Size.{Size}
 use Rattle.node_slots.specs.declared.seats.NodeWriter.{NodeWriter}
-use Rattle.node_slots.specs.Views.{opened_view}
+use Rattle.node_slots.specs.Views.{opened_node_view}
 use Rattle.node_slots.specs.Opening.{IsFreeFrom}
-use Rattle.node_slots.specs.Seats.{sight, free_of, left_of}
+use Rattle.node_slots.specs.Seats.{node_sight, free_of, retired_rows}
 
 -- A tree of spans and slots as contracts see it: the table that it is published in, the most pairs that it may have, the page
 -- where it ends, the number of the present tree, the greatest tree whose grace period has elapsed, the pairs of the tree that is built and
@@ -44,6 +44,6 @@ enough areas = areas / 2 + 60
 -- the writer of a table of this size that was just made: tree 0 is present in row 0, and all other rows are free
 pub record IsFreshWriter (areas : ℕ) (writer : NodeWriter) : Type 0 where
   pub readers : ℕ
-  pub view : sight writer ≡ opened_view (size_for areas readers) readers
+  pub view : node_sight writer ≡ opened_node_view (size_for areas readers) readers
   pub free : IsFreeFrom 1 (rows_for areas) (free_of writer)
-  pub left : left_of writer ≡ []
+  pub left : retired_rows writer ≡ []

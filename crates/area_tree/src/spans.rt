@@ -39,9 +39,9 @@ impl Model for SpanTree {
 
     ghost Value = { SpanView };
 
-    ghost use Rattle.area_tree.specs.SpanKept.{view_of, IsSpanTree};
+    ghost use Rattle.area_tree.specs.SpanKept.{span_view, IsSpanTree};
 
-    ghost view = { view_of };
+    ghost view = { span_view };
 
     ghost invariant = { IsSpanTree };
 }

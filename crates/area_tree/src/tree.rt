@@ -44,9 +44,9 @@ impl Model for AreaTree {
 
     ghost Value = { AreaTreeView };
 
-    ghost use Rattle.area_tree.specs.Kept.{view_of, IsAreaTree};
+    ghost use Rattle.area_tree.specs.Kept.{area_tree_view, IsAreaTree};
 
-    ghost view = { view_of };
+    ghost view = { area_tree_view };
 
     ghost invariant = { IsAreaTree };
 }

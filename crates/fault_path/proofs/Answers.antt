@@ -8,10 +8,10 @@ use Rattle.area_list.specs.Areas.{IsSound}
 use Rattle.area_rules.specs.Verdicts.{area_verdict}
 use Rattle.lock_core.specs.Facts.{list_after}
 use Rattle.vma_lock.specs.declared.view.View.{View}
-use Rattle.vma_lock.specs.Seats.{view}
+use Rattle.vma_lock.specs.Seats.{lock_view}
 use Rattle.vma_lock.specs.Views.{sub_at}
 use Rattle.node_slots.specs.declared.view.NodeView.{NodeView}
-use Rattle.fault_path.specs.Passes.{PassView, config, seen_by, walker}
+use Rattle.fault_path.specs.Passes.{PassView, pass_config, seen_by, walker}
 use Rattle.fault_path.specs.Faults.{IsFound, IsAnswer}
 use Rattle.fault_path.specs.Locking.{GoesOn, IsLocked}
 use Rattle.fault_path.proofs.Members.{member_still, member_verdict, verdict_mapped, verdict_serves}
@@ -52,24 +52,24 @@ sub_found page area old held new walked found sub = subst (λ (v : View). IsFoun
 
 -- the verdict of the area that was locked is that over the list
 pub answered : (page : ℕ) (access : Access) (answer : Verdict) (version : ℕ) (area : Record) (files : List FileRow) (old new : PassView) (held : View)
-    → IsLocked area held → IsFound page area (view old.reader) held (walker new) → view new.reader ≡ sub_at held
-    → answer ≡ area_verdict files page access area → files ≡ (config new).files → version ≡ length (seen_by new)
+    → IsLocked area held → IsFound page area (lock_view old.reader) held (walker new) → lock_view new.reader ≡ sub_at held
+    → answer ≡ area_verdict files page access area → files ≡ (pass_config new).files → version ≡ length (seen_by new)
     → IsAnswer page access answer version old new
 answered page access answer version area files old new held locked found sub gives files_are version_is =
-    let gives' : answer ≡ area_verdict (config new).files page access area = gives ∙ ap (λ fs. area_verdict fs page access area) files_are in
+    let gives' : answer ≡ area_verdict (pass_config new).files page access area = gives ∙ ap (λ fs. area_verdict fs page access area) files_are in
     record {
       area = area;
-      found = sub_found page area (view old.reader) held (view new.reader) (walker new) found sub;
+      found = sub_found page area (lock_view old.reader) held (lock_view new.reader) (walker new) found sub;
       gives = gives';
       version_is = version_is;
-      right = gives' ∙ member_verdict (config new) (list_after (config new) (seen_by new)) area page access
+      right = gives' ∙ member_verdict (pass_config new) (list_after (pass_config new) (seen_by new)) area page access
           (subst (λ (v : View). IsSound v.config (list_after v.config v.seen)) (sym sub) locked.sound)
           (subst (λ (v : View). Contains (list_after v.config v.seen) area) (sym sub) locked.member)
           found.holds.has;
-      still = member_still (config new) (list_after (config new) (seen_by new)) area page access
+      still = member_still (pass_config new) (list_after (pass_config new) (seen_by new)) area page access
           (subst (λ (v : View). IsSound v.config (list_after v.config v.seen)) (sym sub) locked.sound)
           (subst (λ (v : View). Contains (list_after v.config v.seen) area) (sym sub) locked.member)
           found.holds.has;
-      mapped = λ is. verdict_mapped (config new).files page access area (sym gives' ∙ is);
-      serves = λ other index is. verdict_serves (config new).files page access area other index (sym gives' ∙ is);
+      mapped = λ is. verdict_mapped (pass_config new).files page access area (sym gives' ∙ is);
+      serves = λ other index is. verdict_serves (pass_config new).files page access area other index (sym gives' ∙ is);
     }

@@ -5,9 +5,9 @@ use Rattle.lock_core.specs.Facts.{list_after}
 use Rattle.lock_core.specs.Rows.{Exactly}
 use Rattle.vma_lock.specs.declared.view.View.{View}
 use Rattle.vma_lock.specs.Views.{begin_at, mark_at, write_at}
-use Rattle.fault_path.specs.Internal.Small.{AreFree, ShowsOne}
+use Rattle.fault_path.specs.Internal.Small.{AreOthersDetached, ShowsOneArea}
 use Rattle.fault_path.proofs.Small.{enters_exactly}
-use Rattle.fault_path.specs.Passes.{PassView, ViewedTable, SitsAt, ArePasses}
+use Rattle.fault_path.specs.Passes.{PassView, ViewedTable, SitsAtTables, AreTablePasses}
 
 -- the last of some passes
 there_last : {A : Type 0} (xs : List A) (last : A) → slice_get (xs ++ last ∷ []) (length xs) ≡ Some last
@@ -16,15 +16,15 @@ there_last (y ∷ xs) last = there_last xs last
 
 -- it sits at the tables of all of them
 pub last_sits : (viewed : ViewedTable) (most : List ℕ) (all fewer : List PassView) (pass : PassView) → all ≡ fewer ++ pass ∷ []
-    → ArePasses viewed most all → SitsAt viewed pass
+    → AreTablePasses viewed most all → SitsAtTables viewed pass
 last_sits viewed most all fewer pass same passes =
     let there = ap (λ (xs : List PassView). slice_get xs (length fewer)) same ∙ there_last fewer pass in
     (passes.each (length fewer) pass there).0.sits
 
 -- what a call on slot 0 owes at its end
 pub entered_exactly : (first begun marked written : View) (entry : Entry) (row : List ℕ) (found : ℕ) → begun ≡ begin_at first
-    → marked ≡ mark_at begun 0 found → written ≡ write_at marked 0 row → AreFree first.writer_state.slots → 0 < length first.writer_state.slots
-    → ShowsOne (list_after first.config (first.seen ++ entry ∷ [])) row
+    → marked ≡ mark_at begun 0 found → written ≡ write_at marked 0 row → AreOthersDetached first.writer_state.slots → 0 < length first.writer_state.slots
+    → ShowsOneArea (list_after first.config (first.seen ++ entry ∷ [])) row
     → Exactly written.writer_state.slots (list_after written.config (written.seen ++ entry ∷ []))
 entered_exactly first begun marked written entry row found begin mark write free some_slot shows =
     let slots = ap (λ (v : View). v.writer_state.slots) begin in

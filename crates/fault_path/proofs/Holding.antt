@@ -15,7 +15,7 @@ use Rattle.vma_lock.specs.Plays.{Sees, LooksAt}
 use Rattle.vma_lock.specs.Seats.{is_validated, row_of}
 use Rattle.vma_lock.specs.Views.{look_at}
 use Rattle.area_rules.specs.Journals.{calls_by}
-use Rattle.vma_lock.specs.Seats.{view, HasTurn}
+use Rattle.vma_lock.specs.Seats.{lock_view, HasTurn}
 use Rattle.fault_path.specs.Passes.{PassView, caller, seen_by, walker}
 use Rattle.fault_path.specs.Faults.{WalksOnce, IsFound}
 use Rattle.fault_path.specs.Locking.{GoesOn, IsLocked}
@@ -26,9 +26,9 @@ use Rattle.fault_path.proofs.Members.{seen_sound, held_member}
 valid_look : (config : Config) (journal : List Entry) (seq : ℕ) (stage after : Stage) → is_validated stage ≡ true → LooksAt config journal seq stage after
     → (is_validated after ≡ true) × (row_of after ≡ row_of stage) × IsRowOf (list_after config journal) (row_of after)
 valid_look config journal seq (Valid slot found row) after valid looks = (
-  ap is_validated looks.0,
-  ap row_of looks.0,
-  subst (λ (r : List ℕ). IsRowOf (list_after config journal) r) (sym (ap row_of looks.0)) looks.2,
+  ap is_validated looks.tests,
+  ap row_of looks.tests,
+  subst (λ (r : List ℕ). IsRowOf (list_after config journal) r) (sym (ap row_of looks.tests)) (looks.right slot found row looks.tests).2,
 )
 valid_look config journal seq Out after valid looks = absurd (cc)
 valid_look config journal seq (Holds slot found) after valid looks = absurd (cc)
@@ -63,12 +63,12 @@ look_locked area old new seq config locked sees looks look =
     }
 
 -- an area was locked for a pass
-pub locks : (page : ℕ) (old : PassView) (held : HeldView) → GoesOn (view old.reader) (view held.pass.reader) → HasTurn old.reader
+pub locks : (page : ℕ) (old : PassView) (held : HeldView) → GoesOn (lock_view old.reader) (lock_view held.pass.reader) → HasTurn old.reader
     → held.pass.reader.seat.table_id ≡ old.reader.seat.table_id → held.pass.nodes.seat.table_id ≡ old.nodes.seat.table_id
     → (walker held.pass).size ≡ (walker old).size → held.pass.log ≡ old.log → held.pass.left ≡ old.left → held.pass.operations ≡ old.operations
     → held.pass.takes ≡ old.takes
-    → WalksOnce (walker old) (walker held.pass) → IsLocked held.area (view held.pass.reader)
-    → IsFound page held.area (view old.reader) (view held.pass.reader) (walker held.pass) → Locks page old held
+    → WalksOnce (walker old) (walker held.pass) → IsLocked held.area (lock_view held.pass.reader)
+    → IsFound page held.area (lock_view old.reader) (lock_view held.pass.reader) (walker held.pass) → Locks page old held
 locks page old held on turn table nodes size log left operations takes walk locked found = record {
   alike = record {
     later = record {

@@ -6,9 +6,9 @@ use Rattle.std.specs.Prelude.{All}
 use Rattle.grace_core.specs.Core.{times}
 use Rattle.maple_node.specs.declared.item.NodeItem.{NodeItem}
 use Rattle.maple_node.specs.declared.root.Root.{Root}
-use Rattle.maple_node.specs.Nodes.{words_of, leaf_items, Ascends}
+use Rattle.maple_node.specs.Nodes.{words_of_items, leaf_items, Ascends}
 use Rattle.maple_node.specs.Levels as levels
-use Rattle.maple_node.specs.Levels.{IsTower, level_of, rows_of, IsNode}
+use Rattle.maple_node.specs.Levels.{IsTower, level_of, rows_below, IsNode}
 use Rattle.maple_node.specs.Trees.{tree_of, IsLayout, ApartFrom}
 use Rattle.node_slots.specs.Trees.{shown_rows}
 use Rattle.node_slots.specs.Opening.{IsFreeFrom}
@@ -24,26 +24,26 @@ abbrev pub leaf_root : ℕ → ℕ → Root
 leaf_root tree row = record { tree = tree; height = 1; row = record { 0 = row } }
 
 -- the words of a leaf of one entry list it
-one_entry : (end word : ℕ) → 0 < end → leaf_items (words_of true (entry end word ∷ [])) ≡ entry end word ∷ []
-unfolding leaf_items words_of
+one_entry : (end word : ℕ) → 0 < end → leaf_items (words_of_items true (entry end word ∷ [])) ≡ entry end word ∷ []
+unfolding leaf_items words_of_items
 one_entry end word some =
     let more : nat_eq end 0 ≡ false = ne_eqb end 0 (λ e. omega arith) in
     cond-false (nat_eq end 0) [] (entry end word ∷ []) more
 
 -- a leaf has its row alone
 pub leaf_rows : (words : List (List ℕ)) (tree row : ℕ) → shown_rows (record { root = leaf_root tree row; words = words }) ≡ row ∷ []
-unfolding shown_rows rows_of
+unfolding shown_rows rows_below
 leaf_rows words tree row = refl
 
 -- one row is listed at most once
-single : (row other : ℕ) → levels.times row (other ∷ []) ≤ 1
+single : (row other : ℕ) → levels.times_among row (other ∷ []) ≤ 1
 single row other = elim (cases_Bool (nat_eq other row)) [
   | inl same ↦ omega (arith, cond-true {A = ℕ} (nat_eq other row) 1 0 same)
   | inr apart ↦ omega (arith, cond-false {A = ℕ} (nat_eq other row) 1 0 apart)
 ]
 
 -- a row that has the words of one entry is a leaf
-one_node : (at : ℕ → List ℕ) (row end word : ℕ) → at row ≡ words_of true (entry end word ∷ []) → leaf_items (at row) ≡ entry end word ∷ [] → 0 < end
+one_node : (at : ℕ → List ℕ) (row end word : ℕ) → at row ≡ words_of_items true (entry end word ∷ []) → leaf_items (at row) ≡ entry end word ∷ [] → 0 < end
     → let top = (tree_of at (leaf_root 0 row)).top in IsNode at true top.end 0 top
 one_node at row end word is reads some = record {
   some = subst (λ (xs : List NodeItem). 1 ≤ length xs) (sym reads) (omega arith);
@@ -52,7 +52,7 @@ one_node at row end word is reads some = record {
   ascends = subst (λ (xs : List NodeItem). Ascends 0 xs) (sym reads) (some, tt);
   until = refl;
   gap = refl;
-  words = is ∙ ap (λ (xs : List NodeItem). words_of true xs) (sym reads);
+  words = is ∙ ap (λ (xs : List NodeItem). words_of_items true xs) (sym reads);
 }
 
 -- its one entry has one of so many slots
@@ -61,9 +61,9 @@ one_small end word slots zero d small low = small
 one_small end word slots (suc k) d small low = absurd (omega arith)
 
 -- and a tree that meets the layout
-pub leaf_layout : (at : ℕ → List ℕ) (slots tree row end word : ℕ) → at row ≡ words_of true (entry end word ∷ []) → 0 < end
+pub leaf_layout : (at : ℕ → List ℕ) (slots tree row end word : ℕ) → at row ≡ words_of_items true (entry end word ∷ []) → 0 < end
     → word ≤ slots → IsLayout at slots (tree_of at (leaf_root tree row))
-unfolding IsTower level_of rows_of
+unfolding IsTower level_of rows_below
 leaf_layout at slots tree row end word is some small =
     let reads : leaf_items (at row) ≡ entry end word ∷ [] = ap leaf_items is ∙ one_entry end word some in
     record {

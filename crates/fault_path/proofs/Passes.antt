@@ -12,28 +12,28 @@ use Rattle.area_rules.specs.Journals.{calls_by, version_of, IsReadAfter, IsReadR
 use Rattle.lock_core.specs.declared.stage.Stage.TheVariants.{Out}
 use Rattle.lock_core.specs.Core.{StartsWith}
 use Rattle.vma_lock.specs.declared.seats.ReaderSeat.{ReaderSeat}
-use Rattle.vma_lock.specs.Seats.{view, stage}
+use Rattle.vma_lock.specs.Seats.{lock_view, stage}
 use Rattle.vma_lock.specs.declared.view.View.{View}
-use Rattle.vma_lock.specs.Views.{joined_at, new_reader, opened_view}
+use Rattle.vma_lock.specs.Views.{lock_joined_at, new_lock_reader, opened_lock_view}
 use Rattle.area_rules.specs.Steps.{IsLegalJournal}
 use Rattle.node_slots.specs.declared.seats.NodeSeat.{NodeSeat}
 use Rattle.node_slots.specs.declared.view.Size.{Size}
 use Rattle.node_slots.specs.Views.{reader_view}
 use Rattle.node_slots.specs.Seats as node_seats
-use Rattle.fault_path.specs.Passes.{PassView, ViewedTable, SitsAt, KeepsPass, IsPass, IsPassOf, IsFresh, caller, config, seen_by, made_by, looks_of, walks_of, node_size}
+use Rattle.fault_path.specs.Passes.{PassView, ViewedTable, SitsAtTables, KeepsPass, IsPass, IsTablePass, IsFreshPass, caller, pass_config, seen_by, made_by, looks_of, walks_of, node_size}
 use Rattle.fault_path.specs.Locking.{GoesOn}
 
 -- a pass after a read, for which an operation was taken
 pub noted : (pass : PassView) (reserved : ℕ) (read : Seen) → IsPass pass reserved
     → length (made_by pass) + length pass.log + pass.left + 1 ≤ pass.operations
-    → IsReadRight (config pass) (seen_by pass) read → All (λ earlier. version_of earlier ≤ version_of read) pass.log
+    → IsReadRight (pass_config pass) (seen_by pass) read → All (λ earlier. version_of earlier ≤ version_of read) pass.log
     → IsPass (record { reader = pass.reader; nodes = pass.nodes; log = pass.log ++ read ∷ []; left = pass.left; operations = pass.operations; takes = pass.takes }) reserved
 noted pass reserved read kept room right rises = record {
   keeps = record {
     legal = kept.keeps.legal;
     turn = kept.keeps.turn;
     closed = kept.keeps.closed;
-    right = All-push (IsReadRight (config pass) (seen_by pass)) pass.log read kept.keeps.right right;
+    right = All-push (IsReadRight (pass_config pass) (seen_by pass)) pass.log read kept.keeps.right right;
     rises = all_pairs_push (λ earlier later. version_of earlier ≤ version_of later) pass.log read kept.keeps.rises rises;
     few = let more = length-append pass.log (read ∷ []) in omega (arith, room, more);
     room = kept.keeps.room;
@@ -44,12 +44,12 @@ noted pass reserved read kept room right rises = record {
 -- a pass that new seats begin
 pub fresh_pass : (viewed : ViewedTable) (most : List ℕ) (place count : ℕ) (seat : ReaderSeat) (walker : NodeSeat) (pass : PassView)
     → pass ≡ record { reader = seat; nodes = walker; log = []; left = count; operations = count; takes = 0 }
-    → seat.seat.table_id ≡ viewed.table → view seat ≡ new_reader (opened_view viewed.config place)
-    → walker.seat.table_id ≡ viewed.nodes → node_seats.view walker ≡ reader_view (node_size viewed.config viewed.callers) place
+    → seat.seat.table_id ≡ viewed.table → lock_view seat ≡ new_lock_reader (opened_lock_view viewed.config place)
+    → walker.seat.table_id ≡ viewed.nodes → node_seats.node_view walker ≡ reader_view (node_size viewed.config viewed.callers) place
     → count ≡ get_or most place 0
-    → (IsPassOf viewed most pass × (caller pass ≡ place)) × IsFresh pass
+    → (IsTablePass viewed most pass × (caller pass ≡ place)) × IsFreshPass pass
 fresh_pass viewed most place count seat walker pass is table view_is walked_is walks_is count_is = subst
-    (λ (p : PassView). (IsPassOf viewed most p × (caller p ≡ place)) × IsFresh p) (sym is) (
+    (λ (p : PassView). (IsTablePass viewed most p × (caller p ≡ place)) × IsFreshPass p) (sym is) (
       (
         record {
           sits = record {
@@ -68,7 +68,7 @@ fresh_pass viewed most place count seat walker pass is table view_is walked_is w
 -- it never looked, nor walked
 pub unused_pass : (settings : Config) (size : Size) (place number count : ℕ) (seat : ReaderSeat) (walker : NodeSeat) (pass : PassView)
     → pass ≡ record { reader = seat; nodes = walker; log = []; left = count; operations = count; takes = 0 }
-    → view seat ≡ new_reader (opened_view settings place) → node_seats.view walker ≡ reader_view size number → (looks_of pass ≡ 0) × (walks_of pass ≡ 0)
+    → lock_view seat ≡ new_lock_reader (opened_lock_view settings place) → node_seats.node_view walker ≡ reader_view size number → (looks_of pass ≡ 0) × (walks_of pass ≡ 0)
 unused_pass settings size place number count seat walker pass is view_is walks_is = (
   ap (λ (p : PassView). looks_of p) is ∙ ap (λ v. v.trace.looks) view_is,
   ap (λ (p : PassView). walks_of p) is ∙ ap (λ v. v.walks) walks_is,
@@ -90,7 +90,7 @@ right_later settings new old read later right =
     }
 
 -- what is kept of a pass whose seats went on
-pub keeps_on : (old new : PassView) (reserved : ℕ) → KeepsPass old reserved → GoesOn (view old.reader) (view new.reader)
+pub keeps_on : (old new : PassView) (reserved : ℕ) → KeepsPass old reserved → GoesOn (lock_view old.reader) (lock_view new.reader)
     → node_seats.IsClosed new.nodes → new.log ≡ old.log → new.left ≡ old.left → new.operations ≡ old.operations → KeepsPass new reserved
 keeps_on old new reserved kept on closed log left operations =
     let own : made_by new ≡ made_by old =
@@ -99,10 +99,10 @@ keeps_on old new reserved kept on closed log left operations =
       legal = on.legal kept.legal;
       turn = on.turn ∙ kept.turn ∙ ap Some (sym on.caller);
       closed = closed;
-      right = subst (All (IsReadRight (config new) (seen_by new))) (sym log)
+      right = subst (All (IsReadRight (pass_config new) (seen_by new))) (sym log)
           (subst (λ (s : Config). All (IsReadRight s (seen_by new)) old.log) (sym on.config)
-          (All-weaker (IsReadRight (config old) (seen_by old)) (IsReadRight (config old) (seen_by new))
-          (λ read. right_later (config old) (seen_by new) (seen_by old) read on.later) old.log kept.right));
+          (All-weaker (IsReadRight (pass_config old) (seen_by old)) (IsReadRight (pass_config old) (seen_by new))
+          (λ read. right_later (pass_config old) (seen_by new) (seen_by old) read on.later) old.log kept.right));
       rises = subst (AllPairs (λ earlier later. version_of earlier ≤ version_of later)) (sym log) kept.rises;
       few =
           let made = ap (λ (l : List Entry). length l) own in
@@ -113,18 +113,18 @@ keeps_on old new reserved kept on closed log left operations =
     }
 
 -- a pass whose seats went on, and came to hold nothing again
-pub gone_on : (old new : PassView) (reserved : ℕ) → IsPass old reserved → GoesOn (view old.reader) (view new.reader) → stage new.reader ≡ Out
+pub gone_on : (old new : PassView) (reserved : ℕ) → IsPass old reserved → GoesOn (lock_view old.reader) (lock_view new.reader) → stage new.reader ≡ Out
     → node_seats.IsClosed new.nodes → new.log ≡ old.log → new.left ≡ old.left → new.operations ≡ old.operations → IsPass new reserved
 gone_on old new reserved kept on free closed log left operations =
     record { keeps = keeps_on old new reserved kept.keeps on closed log left operations; free = free }
 
 -- where a pass sits, by equal things
-pub sits_in : (viewed shown : ViewedTable) (pass given : PassView) → shown ≡ viewed → given ≡ pass → SitsAt viewed pass → SitsAt shown given
+pub sits_in : (viewed shown : ViewedTable) (pass given : PassView) → shown ≡ viewed → given ≡ pass → SitsAtTables viewed pass → SitsAtTables shown given
 sits_in viewed shown pass given shown_is given_is sits =
-    subst (λ (v : ViewedTable). SitsAt v given) (sym shown_is) (subst (λ (p : PassView). SitsAt viewed p) (sym given_is) sits)
+    subst (λ (v : ViewedTable). SitsAtTables v given) (sym shown_is) (subst (λ (p : PassView). SitsAtTables viewed p) (sym given_is) sits)
 
 -- a reader into which another was joined, which had seen a legal journal too
-pub joined_goes : (old other new : View) → new ≡ joined_at old other → StartsWith new.seen old.seen
+pub joined_goes : (old other new : View) → new ≡ lock_joined_at old other → StartsWith new.seen old.seen
     → ((caller : ℕ) → old.turn ≡ Some caller → calls_by caller new.seen ≡ calls_by caller old.seen) → IsLegalJournal old.config other.seen
     → GoesOn old new
 joined_goes old other new joined later own legal = record {

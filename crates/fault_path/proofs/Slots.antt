@@ -1,5 +1,6 @@
 -- For `lock_slot`: what an add, a look and a read of the row leave together.
-use Rattle.std.proofs.Common.{ℕ, ◌≡◌, ◌≢◌, ◌≤◌, ◌+◌, ◌^◌, ◌∙◌, true, false, List, [], ◌∷◌, length, get_or, Option, Some, refl, sym, ap, subst, arith}
+use Rattle.std.proofs.Common.{ℕ, ◌≡◌, ◌≢◌, ◌≤◌, ◌+◌, ◌^◌, ◌∙◌, true, false, List, [], ◌∷◌, length, get_or, Option, Some, refl, sym, ap, subst, nat_eq, arith}
+use Rattle.std.proofs.lemmas.Bool.{cond-false, ne_eqb}
 use Rattle.mm_types.specs.declared.area.Record.{Record}
 use Rattle.mm_types.specs.declared.call.Entry.{Entry}
 use Rattle.mm_types.specs.declared.config.Config.{Config}
@@ -7,7 +8,8 @@ use Rattle.mm_types.specs.Config.{IsValidConfig}
 use Rattle.mm_types.specs.Packed.{unpacked}
 use Rattle.area_list.specs.Areas.{has_page}
 use Rattle.lock_core.specs.declared.stage.Stage.{Stage}
-use Rattle.lock_core.specs.declared.stage.Stage.TheVariants.{Holds}
+use Rattle.lock_core.specs.declared.stage.Stage.TheVariants.{Holds, Valid}
+use Rattle.lock_core.specs.Core.{slot_at}
 use Rattle.lock_core.specs.Facts.{list_after}
 use Rattle.lock_core.specs.Rows.{IsRowOf}
 use Rattle.vma_lock.specs.declared.view.View.{View}
@@ -15,7 +17,7 @@ use Rattle.vma_lock.specs.declared.view.SeenAt.{SeenAt}
 use Rattle.vma_lock.specs.Plays.{Sees, LooksAt}
 use Rattle.vma_lock.specs.Seats.{is_validated, row_of}
 use Rattle.vma_lock.specs.Views.{or_first, holds_slot, add_at, look_at, read_at, sub_at}
-use Rattle.fault_path.specs.Faults.{ReadsSlot, words_of, Lacks}
+use Rattle.fault_path.specs.Faults.{ReadsSlot, words_read, Lacks}
 use Rattle.fault_path.specs.Locking.{IsLocked, LocksSlot}
 use Rattle.fault_path.proofs.Members.{seen_sound, held_member, lacks_page}
 
@@ -50,21 +52,24 @@ validated old added looked new slot lock_seq seq row add sees looks look apart r
     let start : added.stage ≡ Holds slot lock_seq = ap (λ (v : View). v.stage) add in
     let at : LooksAt added.config looked.seen seq (Holds slot lock_seq) looked.stage =
     subst (λ (s : Stage). LooksAt added.config looked.seen seq s looked.stage) start looks in
-    let found = at.1 apart in
-    let same : row ≡ found.0 = row_is ∙ ap row_of found.1 in
+    let stable : List ℕ = (slot_at at.slots slot).row in
+    let found : looked.stage ≡ Valid slot lock_seq stable =
+    at.tests ∙ cond-false (nat_eq lock_seq seq) (Holds slot lock_seq) (Valid slot lock_seq stable) (ne_eqb lock_seq seq apart) in
+    let right = at.right slot lock_seq stable found in
+    let same : row ≡ stable = row_is ∙ ap row_of found in
     let stays : new.stage ≡ looked.stage = ap (λ (v : View). v.stage) read in
     let config : new.config ≡ added.config = ap (λ (v : View). v.config) read ∙ ap (λ (v : View). v.config) look in
     let seen : new.seen ≡ looked.seen = ap (λ (v : View). v.seen) read in
-    let four : length row ≡ 4 = ap (λ (l : List ℕ). length l) same ∙ found.2 in
+    let four : length row ≡ 4 = ap (λ (l : List ℕ). length l) same ∙ right.1 in
     let first : looked.trace.first ≡ Some (record { seq = seq; seen = looked.seen; held = true }) =
     ap (λ (v : View). v.trace.first) look ∙ ap (λ (v : View). or_first v.trace.first (record { seq = seq; seen = looked.seen; held = holds_slot v.stage })) add in
     record {
-      valid = ap is_validated (stays ∙ found.1);
+      valid = ap is_validated (stays ∙ found);
       row_is = ap row_of stays ∙ sym row_is;
       four = four;
       right = subst (λ (r : List ℕ). IsRowOf (list_after new.config new.seen) r) (sym same)
-          (subst (λ (c : Config). IsRowOf (list_after c new.seen) found.0) (sym config)
-          (subst (λ (j : List Entry). IsRowOf (list_after added.config j) found.0) (sym seen) found.3));
+          (subst (λ (c : Config). IsRowOf (list_after c new.seen) stable) (sym config)
+          (subst (λ (j : List Entry). IsRowOf (list_after added.config j) stable) (sym seen) right.2));
       few = subst (λ (j : List Entry). length j ≤ 2 ^ 31) (sym seen) sees.few;
       config = config ∙ ap (λ (v : View). v.config) add;
       reads = record {
@@ -78,7 +83,7 @@ validated old added looked new slot lock_seq seq row add sees looks look apart r
           fields = ap (λ (v : View). v.trace.fields) read ∙ ap (λ (v : View). v.trace.fields + 4) look ∙ ap (λ (v : View). v.trace.fields + 4) add;
         };
         apart = λ is. apart (sym is);
-        words = ap words_of read ∙ four_words row four;
+        words = ap words_read read ∙ four_words row four;
       };
     }
 

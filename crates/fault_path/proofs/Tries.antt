@@ -9,7 +9,7 @@ use Rattle.vma_lock.specs.declared.view.View.{View}
 use Rattle.node_slots.specs.declared.view.ShownTree.{ShownTree}
 use Rattle.node_slots.specs.declared.view.NodeView.{NodeView}
 use Rattle.node_slots.specs.Views.{root_at, close_at}
-use Rattle.maple_read.specs.Walks.{slot_at}
+use Rattle.maple_read.specs.Walks.{shown_slot}
 use Rattle.fault_path.specs.declared.fast.Miss.{Miss}
 use Rattle.fault_path.specs.declared.fast.Miss.TheVariants.{NoArea, Marked, Elsewhere}
 use Rattle.fault_path.specs.Faults.{IsPaired, IsUnpaired, IsFound, IsMiss}
@@ -23,7 +23,7 @@ last_is shown opened loaded walked closed reads load walk close =
 
 -- the walker still has the tree of its snapshot after the walk, which pairs the slot that the walk found with the page
 pub paired_now : (page : ℕ) (slot : Slot) (found : Option Slot) (shown : ShownTree) (loaded walked : NodeView) (reads : ℕ) → loaded.snapshot ≡ Some shown
-    → walked ≡ record loaded { words = loaded.words + reads } → option_map (λ (s : Slot). s.0) found ≡ slot_at page shown → found ≡ Some slot
+    → walked ≡ record loaded { words = loaded.words + reads } → option_map (λ (s : Slot). s.0) found ≡ shown_slot page shown → found ≡ Some slot
     → IsPairedNow page slot.0 walked
 paired_now page slot found shown loaded walked reads snapshot walk told is = record {
   shown = shown;
@@ -33,7 +33,7 @@ paired_now page slot found shown loaded walked reads snapshot walk told is = rec
 
 -- the tree pairs the slot that the walk found with the page
 pub paired : (page : ℕ) (slot : Slot) (found : Option Slot) (shown : ShownTree) (closed : NodeView) → closed.last ≡ Some shown
-    → option_map (λ (s : Slot). s.0) found ≡ slot_at page shown → found ≡ Some slot → IsPaired page slot.0 closed
+    → option_map (λ (s : Slot). s.0) found ≡ shown_slot page shown → found ≡ Some slot → IsPaired page slot.0 closed
 paired page slot found shown closed last walk is = record {
   shown = shown;
   loaded = last;
@@ -42,7 +42,7 @@ paired page slot found shown closed last walk is = record {
 
 -- the tree pairs no slot with the page, where the walk found none
 pub unpaired : (page tree : ℕ) (found : Option Slot) (shown : ShownTree) (closed : NodeView) → closed.last ≡ Some shown → shown.root.tree ≡ tree
-    → option_map (λ (s : Slot). s.0) found ≡ slot_at page shown → found ≡ None → IsUnpaired page tree closed
+    → option_map (λ (s : Slot). s.0) found ≡ shown_slot page shown → found ≡ None → IsUnpaired page tree closed
 unpaired page tree found shown closed last number walk is = record {
   shown = shown;
   loaded = last;

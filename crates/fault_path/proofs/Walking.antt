@@ -12,7 +12,7 @@ use Rattle.node_slots.specs.declared.view.ShownTree.{ShownTree}
 use Rattle.node_slots.specs.declared.view.NodeView.{NodeView}
 use Rattle.node_slots.specs.Trees.{IsShown}
 use Rattle.node_slots.specs.Views.{root_at}
-use Rattle.maple_read.specs.Walks.{slot_at, HasLoaded}
+use Rattle.maple_read.specs.Walks.{shown_slot, HasLoaded}
 use Rattle.maple_read.proofs.Pairs.{slot_in}
 use Rattle.maple_read.proofs.Loaded.{is_loaded, slot-entry, entries_in}
 use Rattle.area_list.proofs.Finding.{find_keeps}
@@ -38,7 +38,7 @@ entry_below slots slot page entries None at few is = absurd (cc)
 entry_below slots slot page entries (Some item) at few is = slot_below slots slot item.word (few item at) is
 
 -- the slot that a loaded tree pairs with a page is one of the table's
-pub slot_within : (view : NodeView) (root : Root) (page slot : ℕ) (loaded : HasLoaded view root) → slot_at page loaded.shown ≡ Some slot
+pub slot_within : (view : NodeView) (root : Root) (page slot : ℕ) (loaded : HasLoaded view root) → shown_slot page loaded.shown ≡ Some slot
     → slot < view.size.slots
 slot_within view root page slot loaded is =
     let shown = loaded.shown in

@@ -11,16 +11,16 @@ use Rattle.area_rules.specs.Growing.{grows}
 use Rattle.area_rules.specs.Verdicts.{area_verdict, verdict}
 use Rattle.lock_core.specs.Rows.{is_detached}
 use Rattle.lock_core.specs.Facts.{list_after}
-use Rattle.maple_read.specs.Walks.{slot_at}
+use Rattle.maple_read.specs.Walks.{shown_slot}
 use Rattle.vma_lock.specs.declared.view.View.{View}
-use Rattle.vma_lock.specs.Seats.{view}
+use Rattle.vma_lock.specs.Seats.{lock_view}
 use Rattle.node_slots.specs.declared.view.ShownTree.{ShownTree}
 use Rattle.node_slots.specs.declared.view.NodeView.{NodeView}
 use Rattle.fault_path.specs.declared.fast.Miss.{Miss}
 use Rattle.fault_path.specs.declared.fast.Miss.TheVariants.{NoArea, Marked, Elsewhere}
 use Rattle.fault_path.specs.declared.fast.Fast.{Fast}
 use Rattle.fault_path.specs.declared.fast.Fast.TheVariants as fast
-use Rattle.fault_path.specs.Passes.{PassView, config, seen_by, walker}
+use Rattle.fault_path.specs.Passes.{PassView, pass_config, seen_by, walker}
 
 -- One walk was made: one root was loaded, and at most 105 words of rows.
 pub record WalksOnce (old new : NodeView) : Type 0 where
@@ -31,14 +31,14 @@ pub record WalksOnce (old new : NodeView) : Type 0 where
 pub record IsPaired (page slot : ℕ) (walked : NodeView) : Type 0 where
   pub shown : ShownTree
   pub loaded : walked.last ≡ Some shown
-  pub pair : slot_at page shown ≡ Some slot
+  pub pair : shown_slot page shown ≡ Some slot
 
 -- The tree that was loaded last has this number, and pairs no slot with the page.
 pub record IsUnpaired (page tree : ℕ) (walked : NodeView) : Type 0 where
   pub shown : ShownTree
   pub loaded : walked.last ≡ Some shown
   pub number : shown.root.tree ≡ tree
-  pub none : slot_at page shown ≡ None
+  pub none : shown_slot page shown ≡ None
 
 -- One slot was tried: one add found this lock sequence in it, one look after the add found this sequence while the slot was held,
 -- and so many words of the slot's row were read.
@@ -50,8 +50,8 @@ pub record TriesOnce (slot lock_seq seq words : ℕ) (old new : View) : Type 0 w
   pub fields : new.trace.fields ≡ old.trace.fields + words
 
 -- the last four words that a seat read, the first of them first
-abbrev pub words_of : View → List ℕ
-words_of view = view.trace.words.first ∷ view.trace.words.second ∷ view.trace.words.third ∷ view.trace.words.fourth ∷ []
+abbrev pub words_read : View → List ℕ
+words_read view = view.trace.words.first ∷ view.trace.words.second ∷ view.trace.words.third ∷ view.trace.words.fourth ∷ []
 
 -- A slot was validated: the look found another sequence than its lock sequence, and then its row was read, which has these words.
 pub record ReadsSlot (slot : ℕ) (row : List ℕ) (old new : View) : Type 0 where
@@ -59,7 +59,7 @@ pub record ReadsSlot (slot : ℕ) (row : List ℕ) (old new : View) : Type 0 whe
   pub seq : ℕ
   pub tries : TriesOnce slot lock_seq seq 4 old new
   pub apart : seq ≢ lock_seq
-  pub words : words_of new ≡ row
+  pub words : words_read new ≡ row
 
 -- a row is detached, or the area that it holds lacks the page
 abbrev pub Lacks : ℕ → List ℕ → Type 0
@@ -76,7 +76,7 @@ pub record IsNoArea (page tree : ℕ) (old new : View) (walked : NodeView) : Typ
   pub untouched : new ≡ old
 
 -- Marked: the tree that was loaded pairs a slot with the page, and both the add and the look found this sequence there.
-pub record IsMarked (page seq : ℕ) (old new : View) (walked : NodeView) : Type 0 where
+pub record IsMarkedFault (page seq : ℕ) (old new : View) (walked : NodeView) : Type 0 where
   pub slot : ℕ
   pub paired : IsPaired page slot walked
   pub tries : TriesOnce slot seq seq 0 old new
@@ -91,7 +91,7 @@ pub record IsElsewhere (page : ℕ) (row : List ℕ) (old new : View) (walked : 
 -- the cause of a miss
 abbrev pub IsMiss : ℕ → View → View → NodeView → Miss → Type 0
 IsMiss page old new walked (NoArea tree) = IsNoArea page tree old new walked
-IsMiss page old new walked (Marked seq) = IsMarked page seq old new walked
+IsMiss page old new walked (Marked seq) = IsMarkedFault page seq old new walked
 IsMiss page old new walked (Elsewhere row) = IsElsewhere page row old new walked
 
 -- Found: the tree that was loaded pairs a slot with the page, the slot was validated, and its row holds this area, which has
@@ -105,24 +105,24 @@ pub record IsFound (page : ℕ) (area : Record) (old new : View) (walked : NodeV
 
 -- The area is one of the list after all of the journal that the pass has seen.
 abbrev pub IsMember : Record → PassView → Type 0
-IsMember area pass = Contains (list_after (config pass) (seen_by pass)) area
+IsMember area pass = Contains (list_after (pass_config pass) (seen_by pass)) area
 
 -- Answered: the page was found in an area, of whose row the verdict is that of the area alone; and it is the verdict over the
 -- list after all of the journal that the pass has seen, whose length is the version, where the fault grows no area. A page that no
 -- area has is never answered.
 pub record IsAnswer (page : ℕ) (access : Access) (answer : Verdict) (version : ℕ) (old new : PassView) : Type 0 where
   pub area : Record
-  pub found : IsFound page area (view old.reader) (view new.reader) (walker new)
-  pub gives : answer ≡ area_verdict (config new).files page access area
+  pub found : IsFound page area (lock_view old.reader) (lock_view new.reader) (walker new)
+  pub gives : answer ≡ area_verdict (pass_config new).files page access area
   pub version_is : version ≡ length (seen_by new)
-  pub right : answer ≡ verdict (config new) (list_after (config new) (seen_by new)) page access
-  pub still : grows (config new) (list_after (config new) (seen_by new)) page access ≡ false
+  pub right : answer ≡ verdict (pass_config new) (list_after (pass_config new) (seen_by new)) page access
+  pub still : grows (pass_config new) (list_after (pass_config new) (seen_by new)) page access ≡ false
   pub mapped : answer ≢ MapErr
   pub serves : (other : Record) (index : ℕ) → answer ≡ Served other index → other ≡ area
 
 -- what a pass missed at a page in a call
 abbrev pub Misses : ℕ → PassView → PassView → Miss → Type 0
-Misses page old new miss = IsMiss page (view old.reader) (view new.reader) (walker new) miss
+Misses page old new miss = IsMiss page (lock_view old.reader) (lock_view new.reader) (walker new) miss
 
 -- what a fault without the lock gave
 abbrev pub IsFast : ℕ → Access → PassView → PassView → Fast → Type 0

@@ -7,7 +7,7 @@ use Rattle.area_rules.specs.Journals.{calls_by}
 use Rattle.area_rules.specs.Steps.{IsLegalJournal}
 use Rattle.lock_core.specs.Core.{StartsWith}
 use Rattle.lock_core.specs.Facts.{list_after}
-use Rattle.maple_read.specs.Walks.{slot_at}
+use Rattle.maple_read.specs.Walks.{shown_slot}
 use Rattle.vma_lock.specs.declared.view.View.{View}
 use Rattle.vma_lock.specs.Seats.{is_validated, row_of}
 use Rattle.node_slots.specs.declared.view.ShownTree.{ShownTree}
@@ -38,7 +38,7 @@ pub record IsLocked (area : Record) (view : View) : Type 0 where
 pub record IsPairedNow (page slot : ℕ) (walker : NodeView) : Type 0 where
   pub shown : ShownTree
   pub snapshot : walker.snapshot ≡ Some shown
-  pub pair : slot_at page shown ≡ Some slot
+  pub pair : shown_slot page shown ≡ Some slot
 
 -- a slot was validated, and its row holds this area, which has the page
 pub record LocksSlot (slot page : ℕ) (area : Record) (old new : View) : Type 0 where

@@ -23,15 +23,15 @@ pub struct Held<'a> {
 
 impl<'a> Model for Held<'a> {
     ghost use Rattle.std.specs.Prelude.{vec_capacity};
-    ghost use Rattle.vma_lock.specs.Seats.{table_of};
+    ghost use Rattle.vma_lock.specs.Seats.{vma_table_id};
     ghost use Rattle.fault_path.specs.Passes.{pass_of};
-    ghost use Rattle.fault_path.specs.Holding.{HeldView, IsHeld};
+    ghost use Rattle.fault_path.specs.Holding.{HeldView, IsAreaHeld};
 
     ghost Value = { HeldView };
 
     ghost view = { λ h. record { area = h.area; pass = pass_of h.reader h.unlocked h.rest } };
 
-    ghost invariant = { λ h. IsHeld (table_of h.table.now) (record { area = h.area; pass = pass_of h.reader h.unlocked h.rest }) (vec_capacity h.rest.log) };
+    ghost invariant = { λ h. IsAreaHeld (vma_table_id h.table.now) (record { area = h.area; pass = pass_of h.reader h.unlocked h.rest }) (vec_capacity h.rest.log) };
 }
 
 impl<'a> Held<'a> {

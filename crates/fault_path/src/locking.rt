@@ -3,7 +3,7 @@ ghost use Rattle.std.specs.Prelude.{◌≡◌, ◌<◌, MatchResult};
 ghost use Rattle.mm_types.specs.Config.{IsValidConfig};
 ghost use Rattle.area_list.specs.Areas.{has_page};
 ghost use Rattle.lock_core.specs.declared.stage.Stage.TheVariants.{Out};
-ghost use Rattle.vma_lock.specs.Seats.{slots_of, IsOf, view, stage};
+ghost use Rattle.vma_lock.specs.Seats.{slots_of, IsOfVmaTable, lock_view, stage};
 ghost use Rattle.node_slots.specs.Seats as node_seats;
 ghost use Rattle.fault_path.specs.Faults.{WalksOnce, IsMiss, IsFound};
 ghost use Rattle.fault_path.specs.Locking.{GoesOn, IsLocked, IsPairedNow, LocksSlot, MissesSlot};
@@ -23,18 +23,18 @@ pub(crate) fn lock_page(
     walker: &mut NodeSeat,
     page: Page,
 ) -> Result<Record, Miss>
-    requires tables { IsOf reader.old table.now × node_seats.IsOf walker.old nodes.now }
+    requires tables { IsOfVmaTable reader.old table.now × node_seats.IsOfNodeTable walker.old nodes.now }
     requires slots { (node_seats.size_of nodes.now).slots ≡ slots_of table.now }
-    requires config { IsValidConfig (view reader.old).config }
+    requires config { IsValidConfig (lock_view reader.old).config }
     requires free { stage reader.old ≡ Out }
     requires closed { node_seats.IsClosed walker.old }
-    ensures tables { IsOf reader.new table.now × node_seats.IsOf walker.new nodes.now }
+    ensures tables { IsOfVmaTable reader.new table.now × node_seats.IsOfNodeTable walker.new nodes.now }
     ensures closed { node_seats.IsClosed walker.new }
-    ensures walk { WalksOnce (node_seats.view walker.old) (node_seats.view walker.new) }
-    ensures goes_on { GoesOn (view reader.old) (view reader.new) }
+    ensures walk { WalksOnce (node_seats.node_view walker.old) (node_seats.node_view walker.new) }
+    ensures goes_on { GoesOn (lock_view reader.old) (lock_view reader.new) }
     ensures locked { MatchResult result
-        (λ area. IsLocked area (view reader.new) × IsFound page.0 area (view reader.old) (view reader.new) (node_seats.view walker.new))
-        (λ miss. (stage reader.new ≡ Out) × IsMiss page.0 (view reader.old) (view reader.new) (node_seats.view walker.new) miss) }
+        (λ area. IsLocked area (lock_view reader.new) × IsFound page.0 area (lock_view reader.old) (lock_view reader.new) (node_seats.node_view walker.new))
+        (λ miss. (stage reader.new ≡ Out) × IsMiss page.0 (lock_view reader.old) (lock_view reader.new) (node_seats.node_view walker.new) miss) }
 {
     nodes.open(walker);
     let root = nodes.root(walker);
@@ -57,17 +57,17 @@ fn lock_slot(
     slot: Slot,
     page: Page,
 ) -> Result<Record, Miss>
-    requires table { IsOf reader.old table.now }
-    requires config { IsValidConfig (view reader.old).config }
+    requires table { IsOfVmaTable reader.old table.now }
+    requires config { IsValidConfig (lock_view reader.old).config }
     requires free { stage reader.old ≡ Out }
     requires slot { slot.0 < slots_of table.now }
     requires open { node_seats.IsOpen walker.now }
-    requires found { IsPairedNow page.0 slot.0 (node_seats.view walker.now) }
-    ensures table { IsOf reader.new table.now }
-    ensures goes_on { GoesOn (view reader.old) (view reader.new) }
+    requires found { IsPairedNow page.0 slot.0 (node_seats.node_view walker.now) }
+    ensures table { IsOfVmaTable reader.new table.now }
+    ensures goes_on { GoesOn (lock_view reader.old) (lock_view reader.new) }
     ensures locked { MatchResult result
-        (λ area. IsLocked area (view reader.new) × LocksSlot slot.0 page.0 area (view reader.old) (view reader.new))
-        (λ miss. (stage reader.new ≡ Out) × MissesSlot slot.0 page.0 (view reader.old) (view reader.new) miss) }
+        (λ area. IsLocked area (lock_view reader.new) × LocksSlot slot.0 page.0 area (lock_view reader.old) (lock_view reader.new))
+        (λ miss. (stage reader.new ≡ Out) × MissesSlot slot.0 page.0 (lock_view reader.old) (lock_view reader.new) miss) }
 {
     let lock_seq = table.add(reader, slot);
     let seq = table.look(reader);

@@ -2,8 +2,8 @@
 ghost use Rattle.std.specs.Prelude.{◌≡◌, length};
 ghost use Rattle.lock_core.specs.Core.{StartsWith};
 ghost use Rattle.lock_core.specs.Events.{longer};
-ghost use Rattle.fault_path.specs.Passes.{config, seen_by, made_by, looks_of, IsLater};
-ghost use Rattle.fault_path.specs.Notes.{Writes};
+ghost use Rattle.fault_path.specs.Passes.{pass_config, seen_by, made_by, looks_of, IsLater};
+ghost use Rattle.fault_path.specs.Notes.{WroteNote};
 
 use crate::pass::Pass;
 use crate::view::FaultView;
@@ -45,7 +45,7 @@ impl FaultView {
         ensures same { pass.new ≡ record pass.old { reader = pass.new.reader } }
         ensures seen { seen_by pass.new ≡ seen_by pass.old }
         ensures looks { looks_of pass.new ≡ looks_of pass.old }
-        ensures note { Writes pass.old result }
+        ensures note { WroteNote pass.old result }
     {
         pass.facts();
         let seat = self.table.split(&mut pass.reader);
@@ -55,7 +55,7 @@ impl FaultView {
     /// A pass takes a note: it has then seen the longer of both lists, each of which begins it.
     pub fn hear(&self, pass: &mut Pass, note: Note)
         requires tables { (pass.old.reader.seat.table_id ≡ self.now.table) × (note.table ≡ self.now.table) }
-        requires configs { note.config ≡ config pass.old }
+        requires configs { note.config ≡ pass_config pass.old }
         ensures later { IsLater pass.old pass.new }
         ensures seen { seen_by pass.new ≡ longer (seen_by pass.old) note.seen }
         ensures note { StartsWith (seen_by pass.new) note.seen }

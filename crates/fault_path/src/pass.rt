@@ -5,7 +5,7 @@ ghost use Rattle.area_rules.specs.Steps.{IsLegalJournal};
 ghost use Rattle.lock_core.specs.declared.stage.Stage.TheVariants.{Out};
 ghost use Rattle.vma_lock.specs.Seats.{seen, stage, HasTurn};
 ghost use Rattle.node_slots.specs.Seats.{IsClosed};
-ghost use Rattle.fault_path.specs.Passes.{caller, config, seen_by, made_by, looks_of, walks_of};
+ghost use Rattle.fault_path.specs.Passes.{caller, pass_config, seen_by, made_by, looks_of, walks_of};
 
 use mm_types::{NoMemory, Seen, Steps};
 use mmap_lock::CountsTakes;
@@ -148,11 +148,11 @@ impl Pass {
 
     /// Tells what each pass keeps.
     pub fn facts(&self)
-        ensures legal { IsLegalJournal (config self.now) (seen_by self.now) }
+        ensures legal { IsLegalJournal (pass_config self.now) (seen_by self.now) }
         ensures turn { HasTurn self.now.reader }
         ensures free { stage self.now.reader ≡ Out }
         ensures closed { IsClosed self.now.nodes }
-        ensures right { All (IsReadRight (config self.now) (seen_by self.now)) self.now.log }
+        ensures right { All (IsReadRight (pass_config self.now) (seen_by self.now)) self.now.log }
         ensures rises { AllPairs (λ earlier later. version_of earlier ≤ version_of later) self.now.log }
         ensures few { length (made_by self.now) + length self.now.log + self.now.left ≤ self.now.operations }
     {
@@ -163,7 +163,7 @@ impl Pass {
     /// greater version.
     pub fn note(&mut self, read: Seen)
         requires left { 0 < self.old.left }
-        requires right { IsReadRight (config self.old) (seen_by self.old) read }
+        requires right { IsReadRight (pass_config self.old) (seen_by self.old) read }
         requires rises { All (λ earlier. version_of earlier ≤ version_of read) self.old.log }
         ensures { self.new ≡ record self.old { log = self.old.log ++ read ∷ []; left = self.old.left - 1 } }
     {

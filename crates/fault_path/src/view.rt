@@ -3,12 +3,12 @@ ghost use Rattle.std.specs.Prelude.{ℕ, ◌≡◌, ◌≤◌, IfOk, IfErr, leng
 ghost use Rattle.mm_types.specs.Config.{IsValidConfig};
 ghost use Rattle.lock_core.specs.Events.{longer};
 ghost use Rattle.vma_lock.specs.declared.seats.ReaderSeat.{ReaderSeat as Reader};
-ghost use Rattle.vma_lock.specs.Views.{opened_view, new_reader};
-ghost use Rattle.vma_lock.specs.Seats.{table_of, IsOf, sight, view};
+ghost use Rattle.vma_lock.specs.Views.{opened_lock_view, new_lock_reader};
+ghost use Rattle.vma_lock.specs.Seats.{vma_table_id, IsOfVmaTable, lock_sight, lock_view};
 ghost use Rattle.node_slots.specs.declared.seats.NodeSeat.{NodeSeat as Walker};
-ghost use Rattle.node_slots.specs.Views.{reader_view, joined_at};
+ghost use Rattle.node_slots.specs.Views.{reader_view, node_joined_at};
 ghost use Rattle.node_slots.specs.Seats as node_seats;
-ghost use Rattle.fault_path.specs.Passes.{caller, config, seen_by, looks_of, made_by, node_size, walker, SitsAt, IsLater, AreFresh, AreUnused, IsNewWriter};
+ghost use Rattle.fault_path.specs.Passes.{caller, seen_by, looks_of, made_by, node_size, walker, SitsAtTables, IsLater, AreFresh, AreUnused, IsNewWriter};
 ghost use Rattle.fault_path.specs.Faults.{WalksOnce, IsFast, Misses};
 ghost use Rattle.fault_path.specs.Holding.{Locks, StaysAlike};
 
@@ -33,7 +33,7 @@ pub struct FaultView {
 }
 
 impl Model for FaultView {
-    ghost use Rattle.vma_lock.specs.Seats.{table_of, config_of};
+    ghost use Rattle.vma_lock.specs.Seats.{vma_table_id, table_config};
     ghost use Rattle.node_slots.specs.Seats.{size_of};
     ghost use Rattle.node_slots.specs.Seats as node_seats;
     ghost use Rattle.fault_path.specs.Passes.{ViewedTable, IsViewed};
@@ -41,13 +41,13 @@ impl Model for FaultView {
     ghost Value = { ViewedTable };
 
     ghost view = { λ v. record {
-      table = table_of v.table;
-      nodes = node_seats.table_of v.nodes;
-      config = config_of v.table;
+      table = vma_table_id v.table;
+      nodes = node_seats.node_table_id v.nodes;
+      config = table_config v.table;
       callers = (size_of v.nodes).readers;
     } };
 
-    ghost invariant = { λ v. IsViewed (config_of v.table) (size_of v.nodes) v.config };
+    ghost invariant = { λ v. IsViewed (table_config v.table) (size_of v.nodes) v.config };
 }
 
 impl FaultView {
@@ -67,7 +67,7 @@ impl FaultView {
           config = config.now;
           callers = length operations.now;
         }) }
-        ensures writer { IfOk result (λ made. sight made.2 ≡ opened_view config.now (length operations.now)) }
+        ensures writer { IfOk result (λ made. lock_sight made.2 ≡ opened_lock_view config.now (length operations.now)) }
         ensures nodes { IfOk result (λ made. IsNewWriter config.now (length operations.now) made.3) }
         ensures passes { IfOk result (λ made. AreFresh made.0 operations.now made.1.items) }
         ensures unused { IfOk result (λ made. AreUnused made.1.items) }
@@ -96,7 +96,7 @@ impl FaultView {
     /// tree pairs with the page, looks at the sequence, and reads the slot's row, unless a call has marked it. An answer is the
     /// verdict of the area in the row, over the list at the look. Else the fault missed, and has to take the lock.
     pub fn fault_fast(&self, pass: &mut Pass, page: Page, access: Access) -> Fast
-        requires { SitsAt self.now pass.old }
+        requires { SitsAtTables self.now pass.old }
         ensures later { IsLater pass.old pass.new }
         ensures same { pass.new ≡ record pass.old { reader = pass.new.reader; nodes = pass.new.nodes } }
         ensures own { made_by pass.new ≡ made_by pass.old }
@@ -125,7 +125,7 @@ impl FaultView {
     /// Locks the area that the tree that is present has at a page, without the lock: the area is held until it is unlocked. It
     /// waits for nobody. A miss hands the pass back.
     pub fn read_lock(&self, pass: Pass, page: Page) -> Result<Held<'_>, (Pass, Miss)>
-        requires { SitsAt self.now pass }
+        requires { SitsAtTables self.now pass }
         ensures held { IfOk result (λ held. Locks page.0 pass held) }
         ensures missed { IfErr result (λ back. StaysAlike pass back.0 × WalksOnce (walker pass) (walker back.0) × Misses page.0 pass back.0 back.1) }
     {
@@ -156,11 +156,11 @@ impl FaultView {
     /// Joins another pass of these tables into one, both its seats, which has then seen the longer of both lists. Hands the other's log
     /// out; its operations that are left and its turn end, and its pin is closed for ever.
     pub fn join(&self, into: &mut Pass, other: Pass) -> Vec<Seen>
-        requires { SitsAt self.now into.old × SitsAt self.now other }
+        requires { SitsAtTables self.now into.old × SitsAtTables self.now other }
         ensures later { IsLater into.old into.new }
         ensures seen { seen_by into.new ≡ longer (seen_by into.old) (seen_by other) }
         ensures looks { looks_of into.new ≡ looks_of into.old }
-        ensures walker { walker into.new ≡ joined_at (walker into.old) }
+        ensures walker { walker into.new ≡ node_joined_at (walker into.old) }
         ensures same { into.new ≡ record into.old { reader = into.new.reader; nodes = into.new.nodes } }
         ensures log { result.items ≡ other.log }
     {
@@ -196,13 +196,13 @@ fn passes_of(
     requires all { (length seats.items ≡ length operations.now) × (length walkers.items ≡ length operations.now) }
     requires few { sum operations.now ≤ 16777216 }
     requires fresh { (place : ℕ) (seat : Reader) → slice_get seats.items place ≡ Some seat
-        → IsOf seat table.now × (view seat ≡ new_reader (opened_view config.now place)) }
+        → IsOfVmaTable seat table.now × (lock_view seat ≡ new_lock_reader (opened_lock_view config.now place)) }
     requires walkers { (place : ℕ) (seat : Walker) → slice_get walkers.items place ≡ Some seat
-        → node_seats.IsOf seat nodes.now
-        × (node_seats.view seat ≡ reader_view (node_size config.now (length operations.now)) place) }
+        → node_seats.IsOfNodeTable seat nodes.now
+        × (node_seats.node_view seat ≡ reader_view (node_size config.now (length operations.now)) place) }
     ensures fresh { IfOk result (λ passes. AreFresh (record {
-      table = table_of table.now;
-      nodes = node_seats.table_of nodes.now;
+      table = vma_table_id table.now;
+      nodes = node_seats.node_table_id nodes.now;
       config = config.now;
       callers = length operations.now;
     }) operations.now passes.items) }

@@ -10,9 +10,9 @@ use Rattle.std.proofs.lemmas.List.Sums.{prefix_len-le-length, fails_before_first
 use Rattle.std.proofs.lemmas.Option.{none-some, same_Some}
 use Rattle.std.proofs.lemmas.Slice.Eq.{bytes_eq-Decides, starts_is}
 use Rattle.mm_types.specs.Flags.{has_flag}
-use Rattle.flag_table.specs.Tables.{Row, Table, bar, words_of, bit_with_name}
+use Rattle.flag_table.specs.Tables.{Row, FlagNames, bar, bar_words, bit_with_name}
 use Rattle.flag_table.specs.Reading.{bit_ahead, first_word, is_first_word, is_word_end, read_words}
-use Rattle.flag_table.specs.Laws.{IsSound, has_bar}
+use Rattle.flag_table.specs.Laws.{IsSoundTable, has_bar}
 use Rattle.flag_table.specs.declared.error.NameError.TheVariants.{Unknown, Twice}
 use Rattle.flag_table.proofs.Joins.{All-no_bar, words_of-no_bar}
 use Rattle.flag_table.proofs.Names.{IsNoneOf, bit_with_name-None, row_named-name}
@@ -72,11 +72,11 @@ none_named (row ∷ rows) text none = cond_both (is_first_word text row.name) (S
     (λ differs e. ((λ same. false≢true (sym differs ∙ first_word_is text row.name same)), none_named rows text e)) none
 
 -- the words of a text are its first word and others
-words_of-first : (text : List ℕ) → (more : List (List ℕ)) × (words_of text ≡ first_word text ∷ more)
+words_of-first : (text : List ℕ) → (more : List (List ℕ)) × (bar_words text ≡ first_word text ∷ more)
 words_of-first text =
     let n = position_or_len is_bar text in
     elim (cases_lt n (length text)) [
-      | inl within ↦ (words_of (drop (n + 1) text), slice_split_first is_bar text 0 within)
+      | inl within ↦ (bar_words (drop (n + 1) text), slice_split_first is_bar text 0 within)
       | inr past ↦ (
         [],
         slice_split_none is_bar text (λ k d below. fails_before_first is_bar text k d (omega arith))
@@ -87,7 +87,7 @@ words_of-first text =
 -- ---- the row whose name it is
 
 -- the name of a row, before bytes before which a word ends
-record IsAhead (table : Table) (text after : List ℕ) (bit : ℕ) : Type 0 where
+record IsAhead (table : FlagNames) (text after : List ℕ) (bit : ℕ) : Type 0 where
   name : List ℕ
   no_bar : has_bar name ≡ false
   whole : text ≡ name ++ after
@@ -116,7 +116,7 @@ row_ahead (first ∷ rows) text bit after is =
     (λ differs later. let found = row_ahead rows text bit after later in
     (found.0, (suc found.1.0, omega (arith, found.1.1), found.1.2), found.2, found.3, found.4)) is
 
-is_ahead : (table : Table) → IsSound table → (text after : List ℕ) (bit : ℕ) → bit_ahead table.rows text ≡ Some (bit, after)
+is_ahead : (table : FlagNames) → IsSoundTable table → (text after : List ℕ) (bit : ℕ) → bit_ahead table.rows text ≡ Some (bit, after)
     → IsAhead table text after bit
 unfolding bit_with_name
 is_ahead table sound text after bit is =
@@ -135,7 +135,7 @@ is_ahead table sound text after bit is =
 pub record AreAhead (rows : List Row) (text rest : List ℕ) (bits : ℕ) : Type 0 where
   pub words : List (List ℕ)
   pub read : AreRead rows words bits
-  pub text_is : words_of text ≡ words ++ words_of rest
+  pub text_is : bar_words text ≡ words ++ bar_words rest
 
 -- before the first word
 pub ahead_start : (rows : List Row) (text : List ℕ) → AreAhead rows text text 0
@@ -143,7 +143,7 @@ ahead_start rows text = record { words = []; read = record { good = refl; togeth
 
 -- a word that no row names
 pub ahead_unknown : (rows : List Row) (text rest : List ℕ) (bits : ℕ) → AreAhead rows text rest bits
-    → bit_ahead rows rest ≡ None → read_words rows (words_of text) ≡ Err (Unknown (first_word rest))
+    → bit_ahead rows rest ≡ None → read_words rows (bar_words text) ≡ Err (Unknown (first_word rest))
 ahead_unknown rows text rest bits ahead none =
     let front = words_of-first rest in
     let word = first_word rest in
@@ -152,9 +152,9 @@ ahead_unknown rows text rest bits ahead none =
     (error_of-Unknown rows ahead.words word (sym (bit_with_name-None rows word (none_named rows rest none))))
 
 -- a word that came before
-pub ahead_twice : (table : Table) → IsSound table → (text rest after : List ℕ) (bits bit : ℕ)
+pub ahead_twice : (table : FlagNames) → IsSoundTable table → (text rest after : List ℕ) (bits bit : ℕ)
     → AreAhead table.rows text rest bits → bit_ahead table.rows rest ≡ Some (bit, after)
-    → has_flag bits bit ≡ true → read_words table.rows (words_of text) ≡ Err (Twice (first_word rest))
+    → has_flag bits bit ≡ true → read_words table.rows (bar_words text) ≡ Err (Twice (first_word rest))
 ahead_twice table sound text rest after bits bit ahead is there =
     let next = is_ahead table sound rest after bit is in
     let front = words_of-first rest in
@@ -172,36 +172,36 @@ end_is [] ends none = refl
 end_is (c ∷ after) ends none = absurd (none after (ap (λ (b : ℕ). b ∷ after) ((Decides-eqb c bar).0 ends)))
 
 -- after the last name
-pub ahead_end : (table : Table) → IsSound table → (text rest after : List ℕ) (bits bit : ℕ)
+pub ahead_end : (table : FlagNames) → IsSoundTable table → (text rest after : List ℕ) (bits bit : ℕ)
     → AreAhead table.rows text rest bits → bit_ahead table.rows rest ≡ Some (bit, after)
     → has_flag bits bit ≡ false → ((more : List ℕ) → after ≢ bar ∷ more)
-    → read_words table.rows (words_of text) ≡ Ok (bit_or bits bit)
+    → read_words table.rows (bar_words text) ≡ Ok (bit_or bits bit)
 ahead_end table sound text rest after bits bit ahead is absent none =
     let next = is_ahead table sound rest after bit is in
     let whole : rest ≡ next.name = next.whole ∙ ap (λ (t : List ℕ). next.name ++ t) (end_is after next.ends none)
     ∙ append-nil next.name in
-    read_words-good table.rows (words_of text) (ahead.words ++ next.name ∷ []) (bit_or bits bit)
+    read_words-good table.rows (bar_words text) (ahead.words ++ next.name ∷ []) (bit_or bits bit)
     (AreRead-push table sound ahead.words next.name bits bit ahead.read next.named absent)
     (sym (ahead.text_is
-    ∙ ap (λ (ws : List (List ℕ)). ahead.words ++ ws) (ap words_of whole ∙ words_of-no_bar next.name next.no_bar)))
+    ∙ ap (λ (ws : List (List ℕ)). ahead.words ++ ws) (ap bar_words whole ∙ words_of-no_bar next.name next.no_bar)))
 
 -- after a name with a bar behind it
-pub ahead_more : (table : Table) → IsSound table → (text rest after more : List ℕ) (bits bit : ℕ)
+pub ahead_more : (table : FlagNames) → IsSoundTable table → (text rest after more : List ℕ) (bits bit : ℕ)
     → AreAhead table.rows text rest bits → bit_ahead table.rows rest ≡ Some (bit, after)
     → has_flag bits bit ≡ false → after ≡ bar ∷ more → AreAhead table.rows text more (bit_or bits bit)
 ahead_more table sound text rest after more bits bit ahead is absent barred =
     let next = is_ahead table sound rest after bit is in
-    let cut : words_of rest ≡ next.name ∷ words_of more =
-    ap words_of (next.whole ∙ ap (λ (t : List ℕ). next.name ++ t) barred)
+    let cut : bar_words rest ≡ next.name ∷ bar_words more =
+    ap bar_words (next.whole ∙ ap (λ (t : List ℕ). next.name ++ t) barred)
     ∙ slice_split_at is_bar next.name bar more (All-no_bar next.name next.no_bar) refl in record {
       words = ahead.words ++ next.name ∷ [];
       read = AreRead-push table sound ahead.words next.name bits bit ahead.read next.named absent;
       text_is = ahead.text_is ∙ ap (λ (ws : List (List ℕ)). ahead.words ++ ws) cut
-          ∙ sym (append_assoc ahead.words (next.name ∷ []) (words_of more));
+          ∙ sym (append_assoc ahead.words (next.name ∷ []) (bar_words more));
     }
 
 -- what is left is shorter
-pub ahead_shorter : (table : Table) → IsSound table → (rest after more : List ℕ) (bit : ℕ)
+pub ahead_shorter : (table : FlagNames) → IsSoundTable table → (rest after more : List ℕ) (bit : ℕ)
     → bit_ahead table.rows rest ≡ Some (bit, after) → after ≡ bar ∷ more → length more < length rest
 ahead_shorter table sound rest after more bit is barred =
     let next = is_ahead table sound rest after bit is in

@@ -5,8 +5,8 @@ use Rattle.std.proofs.lemmas.Bool.Decides.{same_from_decides, Decides-eqb, Decid
 use Rattle.std.proofs.lemmas.List.{get_or_default}
 use Rattle.std.proofs.lemmas.Option.{none-some, same_Some}
 use Rattle.std.proofs.lemmas.Slice.Eq.{bytes_eq-Decides}
-use Rattle.flag_table.specs.Tables.{Row, Table, row_named, bit_with_name}
-use Rattle.flag_table.specs.Laws.{IsSound}
+use Rattle.flag_table.specs.Tables.{Row, FlagNames, row_named, bit_with_name}
+use Rattle.flag_table.specs.Laws.{IsSoundTable}
 
 -- what is found is an element that passes
 pub find-Some : {X : Type 0} (p : X → Bool) (xs : List X) (y : X) → find p xs ≡ Some y → Contains xs y × (p y ≡ true)
@@ -40,7 +40,7 @@ same_row key rows apart a b (i, i_below, i_is) (j, j_below, j_is) same =
     (cases_order i j)
 
 -- a name stands for its row
-pub row_named-name : (table : Table) → IsSound table → (row : Row) → Contains table.rows row
+pub row_named-name : (table : FlagNames) → IsSoundTable table → (row : Row) → Contains table.rows row
     → row_named table.rows row.name ≡ Some row
 row_named-name table sound row has =
     let test : Row → Bool = λ r. bytes_eq r.name row.name in
@@ -56,7 +56,7 @@ row_named-Some rows word row is = let found = find-Some (λ r. bytes_eq r.name w
     (found.0, (bytes_eq-Decides row.name word).0 found.1)
 
 -- two rows have one name where they have one bit
-pub same_test : (table : Table) → IsSound table → (a b : Row) → Contains table.rows a → Contains table.rows b
+pub same_test : (table : FlagNames) → IsSoundTable table → (a b : Row) → Contains table.rows a → Contains table.rows b
     → bytes_eq a.name b.name ≡ nat_eq a.bit b.bit
 same_test table sound a b a_in b_in = same_from_decides (bytes_eq a.name b.name) (nat_eq a.bit b.bit)
     (bytes_eq-Decides a.name b.name)
@@ -66,7 +66,7 @@ same_test table sound a b a_in b_in = same_from_decides (bytes_eq a.name b.name)
     (Decides-eqb a.bit b.bit))
 
 -- rows that differ have names that differ
-pub name-apart : (table : Table) → IsSound table → (a b : Row) → Contains table.rows a → Contains table.rows b → a ≢ b
+pub name-apart : (table : FlagNames) → IsSoundTable table → (a b : Row) → Contains table.rows a → Contains table.rows b → a ≢ b
     → a.name ≢ b.name
 name-apart table sound a b a_in b_in differ = λ e. differ
     (same_row (λ r. r.name) table.rows sound.names a b a_in b_in e)

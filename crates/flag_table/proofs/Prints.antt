@@ -4,10 +4,10 @@ use Rattle.std.specs.Option.{option_map_or}
 use Rattle.std.proofs.lemmas.Bool.{eq-eqb, eqb-true, ne_eqb}
 use Rattle.std.proofs.lemmas.List.{append_assoc, append-nil, map-append, get_or-map, length-map, take_all}
 use Rattle.std.proofs.lemmas.List.Elements.{All-map, All-filter, All-take, Contains-get_or, filter_more}
-use Rattle.flag_table.specs.Tables.{Row, Table, name_with_bit, bar, names_of, text_of}
+use Rattle.flag_table.specs.Tables.{Row, FlagNames, name_with_bit, bar, names_of, text_of_names}
 use Rattle.mm_types.specs.Flags.{has_flag}
-use Rattle.flag_table.specs.Printing.{rows_with, printed, with_name}
-use Rattle.flag_table.specs.Laws.{IsSound}
+use Rattle.flag_table.specs.Printing.{rows_with, printed, with_flag_name}
+use Rattle.flag_table.specs.Laws.{IsSoundTable}
 use Rattle.flag_table.proofs.Joins.{text_of-append}
 use Rattle.flag_table.proofs.Names.{find-Some, find-Contains, same_row}
 
@@ -17,16 +17,16 @@ shown rows bits n = names_of (rows_with bits (take n rows))
 
 -- one more name, after names that are not empty
 text_of-push : (words : List (List ℕ)) (word : List ℕ) → All (λ w. 0 < length w) words
-    → text_of (words ++ word ∷ []) ≡ with_name (text_of words) word
-unfolding with_name
+    → text_of_names (words ++ word ∷ []) ≡ with_flag_name (text_of_names words) word
+unfolding with_flag_name
 text_of-push [] word some = refl
 text_of-push ([] ∷ words) word some = absurd (omega (arith, some 0 [] (omega arith)))
 text_of-push ((c ∷ first) ∷ []) word some = refl
 text_of-push ((c ∷ first) ∷ next ∷ words) word some = text_of-append ((c ∷ first) ∷ next ∷ words) word
-    ∙ append_assoc (text_of ((c ∷ first) ∷ next ∷ words)) (bar ∷ []) word
+    ∙ append_assoc (text_of_names ((c ∷ first) ∷ next ∷ words)) (bar ∷ []) word
 
 -- a bit stands for its row
-name_with_bit-bit : (table : Table) → IsSound table → (row : Row) → Contains table.rows row
+name_with_bit-bit : (table : FlagNames) → IsSoundTable table → (row : Row) → Contains table.rows row
     → name_with_bit table.rows row.bit ≡ row.name
 unfolding name_with_bit
 name_with_bit-bit table sound row has =
@@ -54,10 +54,10 @@ row_at rows column are bits i within =
     )
 
 -- a row whose bit is there adds its name
-pub text_of-shown_yes : (table : Table) → IsSound table → (column : List ℕ) → column ≡ map (λ row. row.bit) table.rows
+pub text_of-shown_yes : (table : FlagNames) → IsSoundTable table → (column : List ℕ) → column ≡ map (λ row. row.bit) table.rows
     → (bits i : ℕ)
-    → i < length column → has_flag bits (get_or column i 0) ≡ true → text_of (shown table.rows bits (i + 1))
-    ≡ with_name (text_of (shown table.rows bits i)) (name_with_bit table.rows (get_or column i 0))
+    → i < length column → has_flag bits (get_or column i 0) ≡ true → text_of_names (shown table.rows bits (i + 1))
+    ≡ with_flag_name (text_of_names (shown table.rows bits i)) (name_with_bit table.rows (get_or column i 0))
 text_of-shown_yes table sound column are bits i within there =
     let Name : Row → List ℕ = λ r. r.name in
     let Some_byte : Row → Type 0 = λ r. 0 < length r.name in
@@ -71,33 +71,33 @@ text_of-shown_yes table sound column are bits i within there =
     (rows_with bits (take i rows))
     (All-filter (λ (r : Row). has_flag bits r.bit) Some_byte (take i rows)
     (All-take Some_byte i rows sound.some_byte)) in
-    ap text_of (at.3 ∙ ap (λ b. shown rows bits i ++ map Name (cond b (row ∷ []) [])) has)
-    ∙ text_of-push (shown rows bits i) row.name some ∙ ap (with_name (text_of (shown rows bits i))) (sym name_is)
+    ap text_of_names (at.3 ∙ ap (λ b. shown rows bits i ++ map Name (cond b (row ∷ []) [])) has)
+    ∙ text_of-push (shown rows bits i) row.name some ∙ ap (with_flag_name (text_of_names (shown rows bits i))) (sym name_is)
 
 -- another row adds nothing
 pub text_of-shown_no : (rows : List Row) (column : List ℕ) → column ≡ map (λ row. row.bit) rows → (bits i : ℕ)
     → i < length column → has_flag bits (get_or column i 0) ≡ false
-    → text_of (shown rows bits (i + 1)) ≡ text_of (shown rows bits i)
+    → text_of_names (shown rows bits (i + 1)) ≡ text_of_names (shown rows bits i)
 text_of-shown_no rows column are bits i within absent =
     let Name : Row → List ℕ = λ r. r.name in
     let at = row_at rows column are bits i within in
     let lacks : has_flag bits at.0.bit ≡ false = ap (has_flag bits) (sym at.2) ∙ absent in
-    ap text_of (at.3 ∙ ap (λ b. shown rows bits i ++ map Name (cond b (at.0 ∷ []) [])) lacks
+    ap text_of_names (at.3 ∙ ap (λ b. shown rows bits i ++ map Name (cond b (at.0 ∷ []) [])) lacks
     ∙ append-nil (shown rows bits i))
 
 -- after the last row all are printed
-pub text_of-shown_all : (table : Table) (column : List ℕ) → column ≡ map (λ row. row.bit) table.rows → (bits n : ℕ)
+pub text_of-shown_all : (table : FlagNames) (column : List ℕ) → column ≡ map (λ row. row.bit) table.rows → (bits n : ℕ)
     → length column ≤ n → bits ≢ 0
-    → text_of (shown table.rows bits n) ≡ printed table bits
+    → text_of_names (shown table.rows bits n) ≡ printed table bits
 unfolding printed
 text_of-shown_all table column are bits n past some =
     let Name : Row → List ℕ = λ r. r.name in
-    let Shown : List Row → List ℕ = λ rs. text_of (names_of (rows_with bits rs)) in
+    let Shown : List Row → List ℕ = λ rs. text_of_names (names_of (rows_with bits rs)) in
     ap Shown (take_all n table.rows (omega (arith, ap length are, length-map table.rows (λ (r : Row). r.bit))))
     ∙ ap (λ b. cond b table.zero (Shown table.rows)) (sym (ne_eqb bits 0 some))
 
 -- no flag
-pub printed-zero : (table : Table) (bits : ℕ) → bits ≡ 0 → printed table bits ≡ table.zero
+pub printed-zero : (table : FlagNames) (bits : ℕ) → bits ≡ 0 → printed table bits ≡ table.zero
 unfolding printed
-printed-zero table bits none = let Shown : ℕ → List ℕ = λ n. text_of (names_of (rows_with n table.rows)) in
+printed-zero table bits none = let Shown : ℕ → List ℕ = λ n. text_of_names (names_of (rows_with n table.rows)) in
     ap (λ n. cond (nat_eq n 0) table.zero (Shown n)) none

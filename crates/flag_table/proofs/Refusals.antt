@@ -7,9 +7,9 @@ use Rattle.std.proofs.lemmas.List.Elements.{All-contains, Contains-get_or}
 use Rattle.std.proofs.lemmas.List.Folds.{Any-from_list_any, list_any_at}
 use Rattle.std.proofs.lemmas.Option.{none-some}
 use Rattle.std.proofs.lemmas.Slice.Eq.{bytes_eq-Decides}
-use Rattle.flag_table.specs.Tables.{Row, Table, row_named, bits_of, names_of, words_of}
+use Rattle.flag_table.specs.Tables.{Row, FlagNames, row_named, bits_of, names_of, bar_words}
 use Rattle.flag_table.specs.Reading.{is_among, is_zero, error_of, first_error, unless_error, read_words, reading}
-use Rattle.flag_table.specs.Laws.{IsSound, AreRows, IsBadWord, IsRefused}
+use Rattle.flag_table.specs.Laws.{IsSoundTable, AreRows, IsBadWord, HasBadWord}
 use Rattle.flag_table.specs.declared.error.NameError.{NameError}
 use Rattle.flag_table.specs.declared.error.NameError.TheVariants.{Unknown, Twice}
 use Rattle.flag_table.proofs.Names.{find-Contains, row_named-name, row_named-Some}
@@ -95,7 +95,7 @@ unless_error-Err None bits error is = cc
 unless_error-Err (Some first) bits error is = ap Some cc
 
 -- the error of a word after names
-error_of-IsBadWord : (table : Table) → IsSound table → (named : List Row) → AreRows table named
+error_of-IsBadWord : (table : FlagNames) → IsSoundTable table → (named : List Row) → AreRows table named
     → (word : List ℕ) (error : NameError)
     → IsBadWord table named word error → error_of table.rows (names_of named) word ≡ Some error
 error_of-IsBadWord table sound named are word error bad =
@@ -116,11 +116,11 @@ error_of-IsBadWord table sound named are word error bad =
     bad
 
 -- words with a bad one
-IsRefused-words : (table : Table) (text : List ℕ) (error : NameError) → is_zero table text ≡ false
-    → read_words table.rows (words_of text) ≡ Err error → IsRefused table text error
+IsRefused-words : (table : FlagNames) (text : List ℕ) (error : NameError) → is_zero table text ≡ false
+    → read_words table.rows (bar_words text) ≡ Err error → HasBadWord table text error
 unfolding read_words
 IsRefused-words table text error flags read =
-    let words = words_of text in
+    let words = bar_words text in
     let rows = table.rows in
     let found = bad_word rows [] words error
     (unless_error-Err (first_error rows [] words) (bits_of (named_rows rows words)) error read) in
@@ -141,8 +141,8 @@ IsRefused-words table text error flags read =
           (two_errors (row_named rows found.word) (is_among found.good found.word) found.word error found.bad);
     }
 
-read_words-IsRefused : (table : Table) (text : List ℕ) (error : NameError) → IsSound table → IsRefused table text error
-    → read_words table.rows (words_of text) ≡ Err error
+read_words-IsRefused : (table : FlagNames) (text : List ℕ) (error : NameError) → IsSoundTable table → HasBadWord table text error
+    → read_words table.rows (bar_words text) ≡ Err error
 unfolding read_words
 read_words-IsRefused table text error sound is =
     let rows = table.rows in
@@ -155,12 +155,12 @@ read_words-IsRefused table text error sound is =
     (bits_of (named_rows rows (names ++ is.word ∷ is.rest)))) first
 
 -- a text is refused for its first bad word
-pub reading-Err : (table : Table) (text : List ℕ) (error : NameError) → IsSound table
-    → (reading table text ≡ Err error) ↔ IsRefused table text error
+pub reading-Err : (table : FlagNames) (text : List ℕ) (error : NameError) → IsSoundTable table
+    → (reading table text ≡ Err error) ↔ HasBadWord table text error
 unfolding reading
 reading-Err table text error sound =
-    let words = read_words table.rows (words_of text) in
-    let P : Result ℕ NameError → Type 0 = λ r. r ≡ Err error → IsRefused table text error in (
+    let words = read_words table.rows (bar_words text) in
+    let P : Result ℕ NameError → Type 0 = λ r. r ≡ Err error → HasBadWord table text error in (
       λ is. cond_both (is_zero table text) (Ok 0) words P (λ zero none. cc)
           (λ flags read. IsRefused-words table text error flags read) is,
       λ is. ap (λ b. cond b (Ok 0) words) is.flags ∙ read_words-IsRefused table text error sound is,

@@ -9,11 +9,11 @@ use Rattle.std.proofs.lemmas.List.Folds.{list_any_none}
 use Rattle.std.proofs.lemmas.List.Kept.{AllPairs-filter}
 use Rattle.std.proofs.lemmas.List.Splits.{join_with_byte-slice_split, length-slice_split}
 use Rattle.std.proofs.lemmas.Slice.Eq.{bytes_eq-Decides}
-use Rattle.flag_table.specs.Tables.{Row, Table, bits_of, HasRows, names_of, text_of, words_of, bar}
-use Rattle.flag_table.specs.Reading.{is_among, is_zero, error_of, first_error, unless_error, read_words, reading, Reads}
+use Rattle.flag_table.specs.Tables.{Row, FlagNames, bits_of, HasRows, names_of, text_of_names, bar_words, bar}
+use Rattle.flag_table.specs.Reading.{is_among, is_zero, error_of, first_error, unless_error, read_words, reading, ReadsBits}
 use Rattle.mm_types.specs.Flags.{has_flag}
 use Rattle.flag_table.specs.Printing.{rows_with, printed}
-use Rattle.flag_table.specs.Laws.{IsSound, AreRows, IsNamed, IsFlagText, has_bar}
+use Rattle.flag_table.specs.Laws.{IsSoundTable, AreRows, NamesBits, IsFlagText, has_bar}
 use Rattle.flag_table.specs.declared.error.BadWord.{BadWord}
 use Rattle.flag_table.specs.declared.error.NameError.{NameError}
 use Rattle.flag_table.proofs.Bits.{bits_of-filter, bits_of-within}
@@ -28,7 +28,7 @@ unless_error-Ok None n bits is = (refl, grind arith)
 unless_error-Ok (Some error) n bits is = cc
 
 -- the rows of good words
-pub AreRows-AreGood : (table : Table) (before words : List (List ℕ)) → AreGood table.rows before words
+pub AreRows-AreGood : (table : FlagNames) (before words : List (List ℕ)) → AreGood table.rows before words
     → AreRows table (named_rows table.rows words)
 AreRows-AreGood table before words good = record {
   of_table = good.inside;
@@ -36,11 +36,11 @@ AreRows-AreGood table before words good = record {
 }
 
 -- words that are read are the names of different rows
-IsNamed-words : (table : Table) (text : List ℕ) (bits : ℕ) → read_words table.rows (words_of text) ≡ Ok bits
-    → IsNamed table text bits
+IsNamed-words : (table : FlagNames) (text : List ℕ) (bits : ℕ) → read_words table.rows (bar_words text) ≡ Ok bits
+    → NamesBits table text bits
 unfolding read_words
 IsNamed-words table text bits is =
-    let words = words_of text in
+    let words = bar_words text in
     let rows = table.rows in
     let both = unless_error-Ok (first_error rows [] words) (bits_of (named_rows rows words)) bits is in
     let good = AreGood-first_error rows [] words both.0 in record {
@@ -53,12 +53,12 @@ IsNamed-words table text bits is =
         ap length good.names,
       );
       rows = AreRows-AreGood table [] words good;
-      text_is = sym (join_with_byte-slice_split bar text) ∙ ap text_of (sym good.names);
+      text_is = sym (join_with_byte-slice_split bar text) ∙ ap text_of_names (sym good.names);
       bits_are = both.1;
     }
 
 -- different names of rows are good words
-good_names : (table : Table) → IsSound table → (prior named : List Row) → All (Contains table.rows) named
+good_names : (table : FlagNames) → IsSoundTable table → (prior named : List Row) → All (Contains table.rows) named
     → AllPairs (λ a b. a.name ≢ b.name) (prior ++ named) → first_error table.rows (names_of prior) (names_of named)
     ≡ None
 good_names table sound prior [] inside apart = refl
@@ -82,14 +82,14 @@ good_names table sound prior (row ∷ named) inside apart =
     ap (λ (o : Option NameError). option_or o (first_error rows (before ++ row.name ∷ []) (map Name named))) good
     ∙ ap (λ (b : List (List ℕ)). first_error rows b (map Name named)) (sym (map_push Name prior row)) ∙ rest
 
-pub first_error-names : (table : Table) → IsSound table → (named : List Row) → AreRows table named
+pub first_error-names : (table : FlagNames) → IsSoundTable table → (named : List Row) → AreRows table named
     → first_error table.rows [] (names_of named) ≡ None
 first_error-names table sound named rows = good_names table sound [] named rows.of_table (λ i j d below within.
     name-apart table sound (get_or named i d) (get_or named j d) (rows.of_table i d (omega arith))
     (rows.of_table j d within) (rows.distinct i j d below within))
 
 -- names name their rows
-named_rows-names : (table : Table) → IsSound table → (named : List Row) → All (Contains table.rows) named
+named_rows-names : (table : FlagNames) → IsSoundTable table → (named : List Row) → All (Contains table.rows) named
     → named_rows table.rows (names_of named) ≡ named
 named_rows-names table sound [] inside = refl
 named_rows-names table sound (row ∷ named) inside =
@@ -99,7 +99,7 @@ named_rows-names table sound (row ∷ named) inside =
     (All-tail (Contains table.rows) row named inside))
 
 -- a text that stands for no flag has no bar
-is_zero-no_bar : (table : Table) → IsSound table → (text : List ℕ) → is_zero table text ≡ true → has_bar text ≡ false
+is_zero-no_bar : (table : FlagNames) → IsSoundTable table → (text : List ℕ) → is_zero table text ≡ true → has_bar text ≡ false
 unfolding is_zero
 is_zero-no_bar table sound text is = ⊎_elim
     (λ zero. ap has_bar ((bytes_eq-Decides text (codes "0")).0 zero))
@@ -107,9 +107,9 @@ is_zero-no_bar table sound text is = ⊎_elim
     (or_cases (bytes_eq text (codes "0")) (bytes_eq text table.zero) is)
 
 -- the names of different rows are read
-reading-names : (table : Table) → IsSound table → (text : List ℕ) (bits : ℕ) (named : List Row) → 0 < length named
+reading-names : (table : FlagNames) → IsSoundTable table → (text : List ℕ) (bits : ℕ) (named : List Row) → 0 < length named
     → AreRows table named
-    → text ≡ text_of (names_of named) → bits ≡ bits_of named → reading table text ≡ Ok bits
+    → text ≡ text_of_names (names_of named) → bits ≡ bits_of named → reading table text ≡ Ok bits
 unfolding reading read_words
 reading-names table sound text bits [] some rows text_is bits_are = absurd (omega arith)
 reading-names table sound text bits (row ∷ named) some are text_is bits_are =
@@ -121,7 +121,7 @@ reading-names table sound text bits (row ∷ named) some are text_is bits_are =
     let No_zero : Row → Type 0 = λ r. is_zero table r.name ≡ false in
     let no_bar : All No_bar (row ∷ named) = All-weaker (Contains rows) No_bar
     (λ r has. All-contains No_bar rows r sound.no_bar has) (row ∷ named) inside in
-    let cut : words_of text ≡ words = ap words_of text_is
+    let cut : bar_words text ≡ words = ap bar_words text_is
     ∙ words_of-text_of row.name (map Name named)
     (All-map (λ (w : List ℕ). has_bar w ≡ false) Name (row ∷ named) no_bar) in
     let flags : is_zero table text ≡ false = false_from_ne_true (is_zero table text) (λ zero.
@@ -131,16 +131,16 @@ reading-names table sound text bits (row ∷ named) some are text_is bits_are =
     false≢true (sym (All-contains No_zero rows row sound.no_zero (All-head (Contains rows) row named inside))
     ∙ ap (is_zero table) same ∙ zero)) in
     let good : first_error rows [] words ≡ None = first_error-names table sound (row ∷ named) are in
-    ap (λ b. cond b (Ok 0) (read_words rows (words_of text))) flags ∙ ap (read_words rows) cut
+    ap (λ b. cond b (Ok 0) (read_words rows (bar_words text))) flags ∙ ap (read_words rows) cut
     ∙ ap (λ (o : Option NameError). unless_error o (bits_of (named_rows rows words))) good
     ∙ ap (λ (rs : List Row). Ok (bits_of rs)) (named_rows-names table sound (row ∷ named) inside) ∙ ap Ok (sym bits_are)
 
 -- a sound table reads these texts and no others
-pub reading-Ok : (table : Table) (text : List ℕ) (bits : ℕ) → IsSound table
+pub reading-Ok : (table : FlagNames) (text : List ℕ) (bits : ℕ) → IsSoundTable table
     → (reading table text ≡ Ok bits) ↔ IsFlagText table text bits
 unfolding reading
 reading-Ok table text bits sound =
-    let words = read_words table.rows (words_of text) in
+    let words = read_words table.rows (bar_words text) in
     let P : Result ℕ NameError → Type 0 = λ r. r ≡ Ok bits → IsFlagText table text bits in (
       λ is. cond_both (is_zero table text) (Ok 0) words P (λ zero none. inl (zero, cc))
           (λ flags read. inr (IsNamed-words table text bits read)) is,
@@ -153,7 +153,7 @@ some_row [] some = absurd (some refl)
 some_row (row ∷ rows) some = omega arith
 
 -- what is printed is a text of flags
-pub IsFlagText-printed : (table : Table) (bits : ℕ) → IsSound table → HasRows table bits
+pub IsFlagText-printed : (table : FlagNames) (bits : ℕ) → IsSoundTable table → HasRows table bits
     → IsFlagText table (printed table bits) bits
 unfolding printed is_zero
 IsFlagText-printed table bits sound has = ⊎_elim
@@ -173,19 +173,19 @@ IsFlagText-printed table bits sound has = ⊎_elim
         distinct = AllPairs-filter (λ a b. a ≢ b) (λ (r : Row). has_flag bits r.bit) table.rows
             (λ i j d below within. λ same. sound.names i j d below within (ap (λ (r : Row). r.name) same));
       };
-      text_is = ap (λ b. cond b table.zero (text_of (names_of (rows_with bits table.rows))))
+      text_is = ap (λ b. cond b table.zero (text_of_names (names_of (rows_with bits table.rows))))
           (ne_eqb bits 0 some);
       bits_are = sym kept;
     }))
     (cases_eq bits 0)
 
-pub reading-printed : (table : Table) (bits : ℕ) → IsSound table → HasRows table bits
+pub reading-printed : (table : FlagNames) (bits : ℕ) → IsSoundTable table → HasRows table bits
     → reading table (printed table bits) ≡ Ok bits
 reading-printed table bits sound has = (reading-Ok table (printed table bits) bits sound).1
     (IsFlagText-printed table bits sound has)
 
 -- what is read has rows
-pub HasRows-reading : (table : Table) (text : List ℕ) (bits : ℕ) → IsSound table → reading table text ≡ Ok bits
+pub HasRows-reading : (table : FlagNames) (text : List ℕ) (bits : ℕ) → IsSoundTable table → reading table text ≡ Ok bits
     → HasRows table bits
 HasRows-reading table text bits sound is = ⊎_elim
     (λ none. ap (λ n. bit_and n (bits_of table.rows)) none.1 ∙ sym none.1)
@@ -194,10 +194,10 @@ HasRows-reading table text bits sound is = ⊎_elim
     ((reading-Ok table text bits sound).0 is)
 
 -- and so has what is answered for words
-pub HasRows-words : (table : Table) (text : List ℕ) (result : Result ℕ BadWord) → IsSound table → is_zero table text
+pub HasRows-words : (table : FlagNames) (text : List ℕ) (result : Result ℕ BadWord) → IsSoundTable table → is_zero table text
     ≡ false
-    → Reads result (read_words table.rows (words_of text)) → IfOk result (HasRows table)
+    → ReadsBits result (read_words table.rows (bar_words text)) → IfOk result (HasRows table)
 unfolding reading
 HasRows-words table text (Ok bits) sound flags reads = HasRows-reading table text bits sound
-    (ap (λ b. cond b (Ok 0) (read_words table.rows (words_of text))) flags ∙ reads)
+    (ap (λ b. cond b (Ok 0) (read_words table.rows (bar_words text))) flags ∙ reads)
 HasRows-words table text (Err word) sound flags reads = tt

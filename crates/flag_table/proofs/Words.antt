@@ -10,10 +10,10 @@ use Rattle.std.proofs.lemmas.List.Folds.{list_any-append}
 use Rattle.std.proofs.lemmas.Nat.{pow_pos}
 use Rattle.std.proofs.lemmas.Option.{none-some, same_Some}
 use Rattle.std.proofs.lemmas.Slice.Eq.{bytes_eq-Decides}
-use Rattle.flag_table.specs.Tables.{Row, Table, row_named, bits_of, bit_with_name, names_of}
+use Rattle.flag_table.specs.Tables.{Row, FlagNames, row_named, bits_of, bit_with_name, names_of}
 use Rattle.flag_table.specs.Reading.{is_among, error_of, first_error, unless_error, read_words}
 use Rattle.mm_types.specs.Flags.{has_flag}
-use Rattle.flag_table.specs.Laws.{IsSound, IsOneBit}
+use Rattle.flag_table.specs.Laws.{IsSoundTable, IsOneBit}
 use Rattle.flag_table.specs.declared.error.NameError.{NameError}
 use Rattle.flag_table.specs.declared.error.NameError.TheVariants.{Unknown, Twice, NoMemory}
 use Rattle.flag_table.proofs.Bits.{bits_of-push, bits_of-and}
@@ -111,7 +111,7 @@ list_any-map p f [] = refl
 list_any-map p f (x ∷ xs) = ap (λ b. p (f x) || b) (list_any-map p f xs)
 
 -- whether the bit of a named row is among those so far says whether its name is
-seen : (table : Table) → IsSound table → (words : List (List ℕ)) (word : List ℕ) (row : Row)
+seen : (table : FlagNames) → IsSoundTable table → (words : List (List ℕ)) (word : List ℕ) (row : Row)
     → first_error table.rows [] words ≡ None
     → row_named table.rows word ≡ Some row → bit_and (bits_of (named_rows table.rows words)) row.bit
     ≡ cond (is_among words word) row.bit 0
@@ -174,7 +174,7 @@ pub record AreRead (rows : List Row) (words : List (List ℕ)) (bits : ℕ) : Ty
   pub good : first_error rows [] words ≡ None
   pub together : bits ≡ bits_of (named_rows rows words)
 
-pub error_of-Twice : (table : Table) → IsSound table → (words : List (List ℕ)) (word : List ℕ) (bits bit : ℕ)
+pub error_of-Twice : (table : FlagNames) → IsSoundTable table → (words : List (List ℕ)) (word : List ℕ) (bits bit : ℕ)
     → AreRead table.rows words bits
     → bit_with_name table.rows word ≡ Some bit → has_flag bits bit ≡ true → error_of table.rows words word
     ≡ Some (Twice word)
@@ -187,7 +187,7 @@ error_of-Twice table sound words word bits bit read is there =
     (λ new. absurd (has_flag-true bits bit there (both ∙ ap (λ b. cond b row.0.bit 0) new)))
     (cases_Bool (is_among words word))
 
-pub AreRead-push : (table : Table) → IsSound table → (words : List (List ℕ)) (word : List ℕ) (bits bit : ℕ)
+pub AreRead-push : (table : FlagNames) → IsSoundTable table → (words : List (List ℕ)) (word : List ℕ) (bits bit : ℕ)
     → AreRead table.rows words bits
     → bit_with_name table.rows word ≡ Some bit → has_flag bits bit ≡ false
     → AreRead table.rows (words ++ word ∷ []) (bit_or bits bit)

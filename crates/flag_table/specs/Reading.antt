@@ -2,7 +2,7 @@
 use Rattle.std.specs.Prelude.{ℕ, ◌≡◌, Bool, true, ◌==◌, ◌&&◌, ◌||◌, List, [], ◌∷◌, ◌++◌, Option, Some, None, is_none, Result, Ok, Err, IsErr, if◌then◌else◌, codes, bytes_eq, nat_eq, filter_map, drop, length}
 use Rattle.std.specs.List.{list_any, starts_with, before_first}
 use Rattle.std.specs.Option.{option_or}
-use Rattle.flag_table.specs.Tables.{Row, Table, bar, bits_of, row_named, words_of}
+use Rattle.flag_table.specs.Tables.{Row, FlagNames, bar, bits_of, row_named, bar_words}
 use Rattle.flag_table.specs.declared.error.BadWord.{BadWord}
 use Rattle.flag_table.specs.declared.error.BadWord.TheVariants as bad
 use Rattle.flag_table.specs.declared.error.NameError.{NameError}
@@ -33,12 +33,12 @@ unfoldable pub read_words : List Row → List (List ℕ) → Result ℕ NameErro
 read_words rows words = unless_error (first_error rows [] words) (bits_of (filter_map (row_named rows) words))
 
 -- whether a text is `0` or the name for no flag
-unfoldable pub is_zero : Table → List ℕ → Bool
+unfoldable pub is_zero : FlagNames → List ℕ → Bool
 is_zero table text = bytes_eq text (codes "0") || bytes_eq text table.zero
 
 -- what a text reads as: no flag, or the words between its bars
-unfoldable pub reading : Table → List ℕ → Result ℕ NameError
-reading table text = if is_zero table text then Ok 0 else read_words table.rows (words_of text)
+unfoldable pub reading : FlagNames → List ℕ → Result ℕ NameError
+reading table text = if is_zero table text then Ok 0 else read_words table.rows (bar_words text)
 
 -- whether a word ends before these bytes: there are none, or a bar stands first
 unfoldable pub is_word_end : List ℕ → Bool
@@ -65,19 +65,19 @@ error_named (bad.Unknown word) = Unknown word.now
 error_named (bad.Twice word) = Twice word.now
 
 -- what was answered without memory is what was to be read
-abbrev pub Reads : Result ℕ BadWord → Result ℕ NameError → Type 0
-Reads (Ok bits) read = read ≡ Ok bits
-Reads (Err word) read = read ≡ Err (error_named word)
+abbrev pub ReadsBits : Result ℕ BadWord → Result ℕ NameError → Type 0
+ReadsBits (Ok bits) read = read ≡ Ok bits
+ReadsBits (Err word) read = read ≡ Err (error_named word)
 
 -- an error that was kept, unless no memory was left to keep it
-abbrev pub IsKept : NameError → NameError → Type 0
-IsKept NoMemory error = Unit {0}
-IsKept (Unknown word) error = error ≡ Unknown word
-IsKept (Twice word) error = error ≡ Twice word
+abbrev pub IsErrorKept : NameError → NameError → Type 0
+IsErrorKept NoMemory error = Unit {0}
+IsErrorKept (Unknown word) error = error ≡ Unknown word
+IsErrorKept (Twice word) error = error ≡ Twice word
 
 -- An answer gives what was to be read, except that it may be out of memory in place of an error.
-abbrev pub Gives : Result ℕ NameError → Result ℕ NameError → Type 0
-Gives (Ok bits) read = read ≡ Ok bits
-Gives (Err NoMemory) read = IsErr read
-Gives (Err (Unknown word)) read = read ≡ Err (Unknown word)
-Gives (Err (Twice word)) read = read ≡ Err (Twice word)
+abbrev pub GivesBits : Result ℕ NameError → Result ℕ NameError → Type 0
+GivesBits (Ok bits) read = read ≡ Ok bits
+GivesBits (Err NoMemory) read = IsErr read
+GivesBits (Err (Unknown word)) read = read ≡ Err (Unknown word)
+GivesBits (Err (Twice word)) read = read ≡ Err (Twice word)

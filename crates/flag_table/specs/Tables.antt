@@ -12,7 +12,7 @@ pub record Row : Type 0 where
   pub bit : ℕ
 
 -- the flags of an argument in their order, and the name for none of them
-pub record Table : Type 0 where
+pub record FlagNames : Type 0 where
   pub rows : List Row
   pub zero : List ℕ
 
@@ -21,14 +21,14 @@ abbrev pub flag : String → ℕ → Row
 flag name bit = record { name = codes name; bit = bit }
 
 -- the accesses that mmap(2) and mprotect(2) are asked for
-unfoldable pub prot_flags : Table
+unfoldable pub prot_flags : FlagNames
 prot_flags = record {
   rows = flag "PROT_READ" PROT_READ ∷ flag "PROT_WRITE" PROT_WRITE ∷ flag "PROT_EXEC" PROT_EXEC ∷ [];
   zero = codes "PROT_NONE";
 }
 
 -- the flags of mmap(2)
-unfoldable pub map_flags : Table
+unfoldable pub map_flags : FlagNames
 map_flags = record {
   rows = flag "MAP_SHARED" MAP_SHARED ∷ flag "MAP_PRIVATE" MAP_PRIVATE ∷ flag "MAP_FIXED" MAP_FIXED ∷ flag "MAP_ANONYMOUS" MAP_ANONYMOUS
       ∷ flag "MAP_GROWSDOWN" MAP_GROWSDOWN ∷ flag "MAP_DENYWRITE" MAP_DENYWRITE ∷ flag "MAP_EXECUTABLE" MAP_EXECUTABLE
@@ -37,7 +37,7 @@ map_flags = record {
 }
 
 -- the flags of mremap(2)
-unfoldable pub mremap_flags : Table
+unfoldable pub mremap_flags : FlagNames
 mremap_flags = record {
   rows = flag "MREMAP_MAYMOVE" MREMAP_MAYMOVE ∷ flag "MREMAP_FIXED" MREMAP_FIXED ∷ flag "MREMAP_DONTUNMAP" MREMAP_DONTUNMAP ∷ [];
   zero = codes "0";
@@ -48,16 +48,16 @@ abbrev pub bar : ℕ
 bar = byte "|"
 
 -- the words of a text, between its bars
-abbrev pub words_of : List ℕ → List (List ℕ)
-words_of text = slice_split (λ c. c == bar) text
+abbrev pub bar_words : List ℕ → List (List ℕ)
+bar_words text = slice_split (λ c. c == bar) text
 
 -- the names of these rows
 abbrev pub names_of : List Row → List (List ℕ)
 names_of rows = map (λ row. row.name) rows
 
 -- the text of these names, with a bar between each two
-abbrev pub text_of : List (List ℕ) → List ℕ
-text_of names = join_with_byte bar names
+abbrev pub text_of_names : List (List ℕ) → List ℕ
+text_of_names names = join_with_byte bar names
 
 -- the bits of these rows together
 abbrev pub bits_of : List Row → ℕ
@@ -65,7 +65,7 @@ bits_of [] = 0
 bits_of (row ∷ rows) = bit_or row.bit (bits_of rows)
 
 -- every one of these bits has a row
-abbrev pub HasRows : Table → ℕ → Type 0
+abbrev pub HasRows : FlagNames → ℕ → Type 0
 HasRows table bits = bit_and bits (bits_of table.rows) ≡ bits
 
 -- the row with this name

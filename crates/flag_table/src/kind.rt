@@ -122,14 +122,14 @@ pub const MREMAP_BITS: [u32; 3] = rows!(Mremap, bits, ());
 impl Kind {
     ghost use Rattle.std.specs.Prelude.{◌≡◌, MatchOption, Some, None};
     ghost use Rattle.flag_table.specs.Tables.{name_with_bit};
-    ghost use Rattle.flag_table.specs.Kinds.{table_of};
+    ghost use Rattle.flag_table.specs.Kinds.{table_of_kind};
     ghost use Rattle.flag_table.specs.Reading.{bit_ahead, is_zero};
 
     /// The bit of the flag whose name is the first word of a text, and what follows the name. The text is compared in place, with no
     /// search for the end of a word.
     pub fn bit_ahead(self, text: &str) -> Option<(u32, &str)>
-        ensures { MatchOption result (bit_ahead (table_of self).rows text.now ≡ None)
-            (λ found. bit_ahead (table_of self).rows text.now ≡ Some (found.0, found.1.now)) }
+        ensures { MatchOption result (bit_ahead (table_of_kind self).rows text.now ≡ None)
+            (λ found. bit_ahead (table_of_kind self).rows text.now ≡ Some (found.0, found.1.now)) }
     {
         match self {
             Kind::Prot => rows!(Prot, bit_ahead, text),
@@ -140,7 +140,7 @@ impl Kind {
 
     /// The name of the flag with this bit, or the empty text where no flag has it.
     pub fn name_with(self, bit: u32) -> &'static str
-        ensures { result.now ≡ name_with_bit (table_of self).rows bit }
+        ensures { result.now ≡ name_with_bit (table_of_kind self).rows bit }
     {
         match self {
             Kind::Prot => rows!(Prot, name_with, bit),
@@ -152,14 +152,14 @@ impl Kind {
     /// Whether a text is `0`, or the name that stands for no flag.
     #[tactic(auto, unfolding(crate::specs::Reading::is_zero))]
     pub fn is_zero(self, text: &str) -> bool
-        ensures { result ≡ is_zero (table_of self) text.now }
+        ensures { result ≡ is_zero (table_of_kind self) text.now }
     {
         text == "0" || text == self.zero_name()
     }
 
     /// The name that stands for no flag.
     pub fn zero_name(self) -> &'static str
-        ensures { result.now ≡ (table_of self).zero }
+        ensures { result.now ≡ (table_of_kind self).zero }
     {
         match self {
             Kind::Prot => "PROT_NONE",

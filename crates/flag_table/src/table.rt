@@ -1,8 +1,8 @@
 ghost use Rattle.std.specs.Prelude.{◌≡◌, IfOk, OnOk, map, string_bytes};
-ghost use Rattle.flag_table.specs.Tables.{prot_flags, map_flags, mremap_flags, words_of};
-ghost use Rattle.flag_table.specs.Kinds.{table_of};
-ghost use Rattle.flag_table.specs.Reading.{read_words, first_word, error_named, Reads, IsKept};
-ghost use Rattle.flag_table.specs.Printing.{printed, with_name};
+ghost use Rattle.flag_table.specs.Tables.{prot_flags, map_flags, mremap_flags, bar_words};
+ghost use Rattle.flag_table.specs.Kinds.{table_of_kind};
+ghost use Rattle.flag_table.specs.Reading.{read_words, first_word, error_named, ReadsBits, IsErrorKept};
+ghost use Rattle.flag_table.specs.Printing.{printed, with_flag_name};
 
 use crate::error::{BadWord, NameError};
 use crate::kind::{Kind, MAP_BITS, MREMAP_BITS, PROT_BITS};
@@ -22,14 +22,14 @@ pub struct FlagTable<const N: usize> {
 
 impl<const N: usize> Model for FlagTable<N> {
     ghost use Rattle.std.specs.Prelude.{◌≡◌, map};
-    ghost use Rattle.flag_table.specs.Tables.{Table};
-    ghost use Rattle.flag_table.specs.Kinds.{table_of};
+    ghost use Rattle.flag_table.specs.Tables.{FlagNames};
+    ghost use Rattle.flag_table.specs.Kinds.{table_of_kind};
 
-    ghost Value = { Table };
+    ghost Value = { FlagNames };
 
-    ghost view = { λ t. table_of t.kind };
+    ghost view = { λ t. table_of_kind t.kind };
 
-    ghost invariant = { λ t. t.bits ≡ map (λ row. row.bit) (table_of t.kind).rows };
+    ghost invariant = { λ t. t.bits ≡ map (λ row. row.bit) (table_of_kind t.kind).rows };
 }
 
 /// The accesses that mmap(2) and mprotect(2) are asked for. `PROT_NONE` and `0` are read as none of them, which is
@@ -69,14 +69,14 @@ pub fn mremap_table() -> FlagTable<3>
 impl<const N: usize> FlagTable<N> {
     ghost use Rattle.std.specs.Prelude.{◌≡◌, IfOk, Ok};
     ghost use Rattle.flag_table.specs.Tables.{HasRows};
-    ghost use Rattle.flag_table.specs.Reading.{reading, Gives, Reads};
+    ghost use Rattle.flag_table.specs.Reading.{reading, GivesBits, ReadsBits};
     ghost use Rattle.flag_table.specs.Printing.{printed};
 
     /// Reads a text of flags: `0`, the name that stands for no flag, or names joined by `|`, whose bits
     /// it gives together. The first bad name from the left is refused. It takes no memory.
     #[tactic(auto, unfolding(crate::specs::Reading::reading))]
     pub fn bits_of<'a>(&self, text: &'a str) -> Result<u32, BadWord<'a>>
-        ensures reads { Reads result (reading self.now text.now) }
+        ensures reads { ReadsBits result (reading self.now text.now) }
         ensures rows { IfOk result (HasRows self.now) }
     {
         if self.kind.is_zero(text) {
@@ -87,7 +87,7 @@ impl<const N: usize> FlagTable<N> {
 
     /// Reads a text of flags as `bits_of` does, and keeps the name that is refused, which alone takes memory.
     pub fn read(&self, alloc: Global, text: &str) -> Result<u32, NameError>
-        ensures gives { Gives result (reading self.now text.now) }
+        ensures gives { GivesBits result (reading self.now text.now) }
         ensures rows { IfOk result (HasRows self.now) }
     {
         match self.bits_of(text) {
@@ -109,7 +109,7 @@ impl<const N: usize> FlagTable<N> {
 
 /// Reads the names between the bars in one pass, up to the first bad one.
 fn read_names<'a>(kind: Kind, text: &'a str) -> Result<u32, BadWord<'a>>
-    ensures { Reads result (read_words (table_of kind).rows (words_of text.now)) }
+    ensures { ReadsBits result (read_words (table_of_kind kind).rows (bar_words text.now)) }
 {
     let mut bits = 0;
     let mut rest = text;
@@ -139,7 +139,7 @@ fn first_word(text: &str) -> &str
 
 /// The error of a bad word, with a copy of it, or else `NameError::NoMemory`.
 fn kept(alloc: Global, bad: BadWord<'_>) -> NameError
-    ensures { IsKept result (error_named bad.entry) }
+    ensures { IsErrorKept result (error_named bad.entry) }
 {
     match bad {
         BadWord::Unknown(word) => match copy_of(alloc, word) {
@@ -162,8 +162,8 @@ fn copy_of(alloc: Global, word: &str) -> Result<Text, AllocError>
 
 /// Prints the names of the bits that are there, where `rows` has the bits of the table.
 fn print_bits(alloc: Global, kind: Kind, rows: &[u32], bits: u32) -> Result<Text, NoMemory>
-    requires { rows.now ≡ map (λ row. row.bit) (table_of kind).rows }
-    ensures { IfOk result (λ text. text ≡ printed (table_of kind) bits) }
+    requires { rows.now ≡ map (λ row. row.bit) (table_of_kind kind).rows }
+    ensures { IfOk result (λ text. text ≡ printed (table_of_kind kind) bits) }
 {
     if bits == 0 {
         return Ok(copy_of(alloc, kind.zero_name())?);
@@ -178,9 +178,9 @@ fn print_bits(alloc: Global, kind: Kind, rows: &[u32], bits: u32) -> Result<Text
 }
 
 /// Adds one more name, after a bar unless it is the first.
-#[tactic(auto, unfolding(crate::specs::Printing::with_name))]
+#[tactic(auto, unfolding(crate::specs::Printing::with_flag_name))]
 fn push_name(text: &mut String, name: &str) -> Result<(), AllocError>
-    ensures { OnOk result (string_bytes text.new ≡ with_name (string_bytes text.old) name.now) }
+    ensures { OnOk result (string_bytes text.new ≡ with_flag_name (string_bytes text.old) name.now) }
 {
     if !text.is_empty() {
         text.push('|')?;

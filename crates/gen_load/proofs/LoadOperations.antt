@@ -9,7 +9,7 @@ use Rattle.mm_types.specs.declared.call.Call.TheVariants.{Munmap, Mprotect, Mrem
 use Rattle.mm_types.specs.declared.config.TheConstants.{PAGE_SIZE}
 use Rattle.mm_types.specs.declared.flags.TheConstants.{MREMAP_MAYMOVE}
 use Rattle.flag_table.specs.Printing.{printed}
-use Rattle.flag_table.specs.Tables.{Table, HasRows, prot_flags, map_flags, mremap_flags}
+use Rattle.flag_table.specs.Tables.{FlagNames, HasRows, prot_flags, map_flags, mremap_flags}
 use Rattle.trace_reader.specs.declared.trace.Op.{Op}
 use Rattle.trace_reader.specs.declared.trace.Op.TheVariants as ops
 use Rattle.trace_reader.specs.Fields.{prot_of_bits}
@@ -18,7 +18,7 @@ use Rattle.trace_reader.specs.LineTexts.{prot_word, access_word, call_words, op_
 use Rattle.gen_load.specs.declared.draw.Kind.{Kind}
 use Rattle.gen_load.specs.declared.draw.Kind.TheVariants.{MapExactly, MapNear, MapAnywhere, Unmap, Protect, Move}
 use Rattle.gen_load.specs.declared.draw.Kind.TheVariants as kinds
-use Rattle.gen_load.specs.Loads.{address_of, length_of, prot_bits_of, new_length_of, mapping, exactly, anywhere, operation}
+use Rattle.gen_load.specs.Loads.{drawn_address, length_of, prot_bits_of, new_length_of, mapping, exactly, anywhere, operation}
 use Rattle.trace_reader.proofs.PlainWords.{room_of}
 use Rattle.trace_reader.proofs.Numerals.{length-address, length-number}
 
@@ -45,7 +45,7 @@ prot-short : (protection : Prot) → length (prot_word protection) ≤ 30
 prot-short protection = length-prot protection.read protection.write protection.exec
 
 -- flags with short names
-record IsShortFlag (table : Table) (bits : ℕ) : Type 0 where
+record IsShortFlag (table : FlagNames) (bits : ℕ) : Type 0 where
   has : HasRows table bits
   fits : bits < 2 ^ 32
   short : length (printed table bits) ≤ 35
@@ -140,13 +140,13 @@ fault-loaded page wanted small = record {
 -- each operation of a load
 pub operation-loaded : (kind : Kind) (draw : ℕ) → IsLoaded (operation kind draw)
 unfolding operation
-operation-loaded MapExactly draw = mapping-loaded (address_of draw) exactly draw (omega arith) exactly-short
-operation-loaded MapNear draw = mapping-loaded (address_of draw) anywhere draw (omega arith) anywhere-short
+operation-loaded MapExactly draw = mapping-loaded (drawn_address draw) exactly draw (omega arith) exactly-short
+operation-loaded MapNear draw = mapping-loaded (drawn_address draw) anywhere draw (omega arith) anywhere-short
 operation-loaded MapAnywhere draw = mapping-loaded 0 anywhere draw (omega arith) anywhere-short
-operation-loaded Unmap draw = unmap-loaded (address_of draw) (length_of draw) (omega arith) (omega arith)
+operation-loaded Unmap draw = unmap-loaded (drawn_address draw) (length_of draw) (omega arith) (omega arith)
 operation-loaded Protect draw =
-    protect-loaded (address_of draw) (length_of draw) (prot_of_bits (prot_bits_of draw)) (omega arith) (omega arith)
+    protect-loaded (drawn_address draw) (length_of draw) (prot_of_bits (prot_bits_of draw)) (omega arith) (omega arith)
 operation-loaded Move draw =
-    move-loaded (address_of draw) (length_of draw) (new_length_of draw) (omega arith) (omega arith) (omega arith)
-operation-loaded kinds.Read draw = fault-loaded (address_of draw / PAGE_SIZE) Read (omega arith)
-operation-loaded kinds.Write draw = fault-loaded (address_of draw / PAGE_SIZE) Write (omega arith)
+    move-loaded (drawn_address draw) (length_of draw) (new_length_of draw) (omega arith) (omega arith) (omega arith)
+operation-loaded kinds.Read draw = fault-loaded (drawn_address draw / PAGE_SIZE) Read (omega arith)
+operation-loaded kinds.Write draw = fault-loaded (drawn_address draw / PAGE_SIZE) Write (omega arith)

@@ -4,16 +4,16 @@ use Rattle.std.proofs.lemmas.List.Elements.{All-nil, All-cons}
 use Rattle.mm_types.specs.Config.{default_config}
 use Rattle.trace_reader.specs.Grammar.{nothing, config_of, lines_read, trace_of}
 use Rattle.text_lexer.specs.Lines.{input_limit}
-use Rattle.trace_reader.specs.LineTexts.{op_words, text_of, line_text}
+use Rattle.trace_reader.specs.LineTexts.{op_words, text_of_line, line_text}
 use Rattle.trace_reader.proofs.PrintedLines.{printed_line}
 use Rattle.trace_reader.proofs.LinesRead.{IsReadableBy, AreNumberedFrom, with_lines, length-text, after_all, lines_read-header, trace_of-read}
-use Rattle.gen_load.specs.Loads.{kind_of, next_of, draw_of, line_of, lines_after, load_lines, load_trace, load_text}
+use Rattle.gen_load.specs.Loads.{kind_of, next_of, draw_of, drawn_line, lines_after, load_lines, load_trace, load_text}
 use Rattle.gen_load.proofs.LoadOperations.{operation-loaded}
 
-line_of-readable : (number draw : ℕ) → number < 2 ^ 64 → IsReadableBy op_words (line_of number draw)
+line_of-readable : (number draw : ℕ) → number < 2 ^ 64 → IsReadableBy op_words (drawn_line number draw)
 line_of-readable number draw fits = let is = operation-loaded (kind_of draw) draw in let room = is.room in record {
   few = omega arith;
-  from = printed_line (line_of number draw) (record { number = fits; thread = omega arith; op = is.value; after = tt }) is.names;
+  from = printed_line (drawn_line number draw) (record { number = fits; thread = omega arith; op = is.value; after = tt }) is.names;
   no_maps = is.no_maps;
   no_child = is.no_child;
   alone = refl;
@@ -41,15 +41,15 @@ length-lines_after number (suc count) last = let rest = length-lines_after (numb
 
 -- and each has at most 152 bytes
 length-lines : (number count last : ℕ) → number + count < 2 ^ 64 → length (flat_map line_text (lines_after number count last)) ≤ 152 * count
-unfolding lines_after text_of
+unfolding lines_after text_of_line
 length-lines number zero last fits = omega arith
 length-lines number (suc count) last fits =
-    let line = line_of number (draw_of (next_of last)) in
+    let line = drawn_line number (draw_of (next_of last)) in
     let others = flat_map line_text (lines_after (number + 1) count (next_of last)) in
     let is = operation-loaded (kind_of (draw_of (next_of last))) (draw_of (next_of last)) in
     let room = is.room in
     let short = length-text op_words line (line_of-readable number (draw_of (next_of last)) (omega arith)) in
-    let newline = length-append (text_of line) (10 ∷ []) in
+    let newline = length-append (text_of_line line) (10 ∷ []) in
     let both = length-append (line_text line) others in
     let rest = length-lines (number + 1) count (next_of last) (omega arith) in
     omega arith
@@ -59,7 +59,7 @@ length-lines number (suc count) last fits =
 -- the lines of a load are read
 lines_read-load : (count seed : ℕ) → count ≤ 400000
     → lines_read (load_text count seed) ≡ Ok (with_lines nothing (load_lines count seed))
-unfolding load_text input_limit text_of
+unfolding load_text input_limit text_of_line
 lines_read-load count seed few =
     let rest = flat_map line_text (load_lines count seed) in
     let many = length-lines_after 2 count seed in

@@ -2,8 +2,8 @@
 use Rattle.std.proofs.Common.{◌≡◌, ℕ, suc, ◌+◌, ◌-◌, ◌<◌, ◌≤◌, List, ◌++◌, flat_map, codes, Result, Ok, Err, OnOk, refl, sym, ap, ◌∙◌, append_assoc, arith}
 use Rattle.std.proofs.lemmas.List.{append-nil}
 use Rattle.mm_types.specs.declared.memory.NoMemory.{NoMemory}
-use Rattle.trace_reader.specs.LineTexts.{line_words, text_of, line_text}
-use Rattle.gen_load.specs.Loads.{next_of, draw_of, line_of, lines_after, load_text}
+use Rattle.trace_reader.specs.LineTexts.{line_words, text_of_line, line_text}
+use Rattle.gen_load.specs.Loads.{next_of, draw_of, drawn_line, lines_after, load_text}
 
 -- three parts that are appended one after the other, unless memory runs out in the last, are a text
 pub three_parts : (answer : Result (Unit {0}) NoMemory) → (old first second third text one two three : List ℕ)
@@ -15,8 +15,8 @@ three_parts (Ok done) old first second third text one two three is_one is_two is
 three_parts (Err error) old first second third text one two three is_one is_two is_three is = tt
 
 -- the text of a line does not have its number
-pub line_text-number : (number draw : ℕ) → line_text (line_of number draw) ≡ line_text (line_of 0 draw)
-unfolding text_of line_words
+pub line_text-number : (number draw : ℕ) → line_text (drawn_line number draw) ≡ line_text (drawn_line 0 draw)
+unfolding text_of_line line_words
 line_text-number number draw = refl
 
 -- the text so far, and the lines that are left after so many
@@ -32,26 +32,26 @@ loading_none text count seed header = let all : count - 0 ≡ count = omega arit
 }
 
 first_left : (number left last : ℕ) → flat_map line_text (lines_after number (suc left) last)
-    ≡ line_text (line_of 0 (draw_of (next_of last))) ++ flat_map line_text (lines_after (number + 1) left (next_of last))
+    ≡ line_text (drawn_line 0 (draw_of (next_of last))) ++ flat_map line_text (lines_after (number + 1) left (next_of last))
 unfolding lines_after
 first_left number left last = ap (λ (t : List ℕ). t ++ flat_map line_text (lines_after (number + 1) left (next_of last)))
     (line_text-number number (draw_of (next_of last)))
 
 -- one line more
 pub loading_more : (text new : List ℕ) (done count last next seed : ℕ) → IsLoading text done count last seed → done < count
-    → next ≡ next_of last → new ≡ text ++ line_text (line_of 0 (draw_of next)) → IsLoading new (done + 1) count next seed
+    → next ≡ next_of last → new ≡ text ++ line_text (drawn_line 0 (draw_of next)) → IsLoading new (done + 1) count next seed
 loading_more text new done count last next seed so_far below is_next adds =
     let left = count - (done + 1) in
     let one : count - done ≡ suc left = omega arith in
     let number : 2 + done + 1 ≡ 2 + (done + 1) = omega arith in
     let rest : flat_map line_text (lines_after (2 + done) (count - done) last)
-    ≡ line_text (line_of 0 (draw_of (next_of last))) ++ flat_map line_text (lines_after (2 + (done + 1)) left (next_of last)) =
+    ≡ line_text (drawn_line 0 (draw_of (next_of last))) ++ flat_map line_text (lines_after (2 + (done + 1)) left (next_of last)) =
     ap (λ (n : ℕ). flat_map line_text (lines_after (2 + done) n last)) one ∙ first_left (2 + done) left last
-    ∙ ap (λ (n : ℕ). line_text (line_of 0 (draw_of (next_of last))) ++ flat_map line_text (lines_after n left (next_of last))) number in
+    ∙ ap (λ (n : ℕ). line_text (drawn_line 0 (draw_of (next_of last))) ++ flat_map line_text (lines_after n left (next_of last))) number in
     record {
       whole = ap (λ (t : List ℕ). t ++ flat_map line_text (lines_after (2 + (done + 1)) left next)) adds
-          ∙ append_assoc text (line_text (line_of 0 (draw_of next))) (flat_map line_text (lines_after (2 + (done + 1)) left next))
-          ∙ ap (λ (x : ℕ). text ++ (line_text (line_of 0 (draw_of x)) ++ flat_map line_text (lines_after (2 + (done + 1)) left x))) is_next
+          ∙ append_assoc text (line_text (drawn_line 0 (draw_of next))) (flat_map line_text (lines_after (2 + (done + 1)) left next))
+          ∙ ap (λ (x : ℕ). text ++ (line_text (drawn_line 0 (draw_of x)) ++ flat_map line_text (lines_after (2 + (done + 1)) left x))) is_next
           ∙ ap (λ (t : List ℕ). text ++ t) (sym rest)
           ∙ so_far.whole;
     }

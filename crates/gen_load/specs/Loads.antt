@@ -36,12 +36,12 @@ abbrev pub kind_of : ℕ → Kind
 kind_of draw = kind_at (draw % 8)
 
 -- its thread, one of four
-abbrev pub thread_of : ℕ → ℕ
-thread_of draw = draw / 8 % 4
+abbrev pub drawn_thread : ℕ → ℕ
+drawn_thread draw = draw / 8 % 4
 
 -- its address: that of one of 65,536 pages
-abbrev pub address_of : ℕ → ℕ
-address_of draw = FIRST_ADDRESS + PAGE_SIZE * (draw / 32 % 65536)
+abbrev pub drawn_address : ℕ → ℕ
+drawn_address draw = FIRST_ADDRESS + PAGE_SIZE * (draw / 32 % 65536)
 
 -- its length, of 1 to 16 pages
 abbrev pub length_of : ℕ → ℕ
@@ -76,27 +76,27 @@ exactly = bit_or MAP_PRIVATE (bit_or MAP_FIXED MAP_ANONYMOUS)
 
 -- the operation of a kind: three ways to map, then unmap, protect, move, read and write
 unfoldable pub operation : Kind → ℕ → Op
-operation MapExactly draw = mapping (address_of draw) exactly draw
-operation MapNear draw = mapping (address_of draw) anywhere draw
+operation MapExactly draw = mapping (drawn_address draw) exactly draw
+operation MapNear draw = mapping (drawn_address draw) anywhere draw
 operation MapAnywhere draw = mapping 0 anywhere draw
-operation Unmap draw = Call (Munmap (address_of draw) (length_of draw))
-operation Protect draw = Call (Mprotect (address_of draw) (length_of draw) (prot_of_bits (prot_bits_of draw)))
-operation Move draw = Call (Mremap (address_of draw) (length_of draw) (new_length_of draw) MREMAP_MAYMOVE 0)
-operation kinds.Read draw = Fault (record { 0 = address_of draw / PAGE_SIZE }) Read
-operation kinds.Write draw = Fault (record { 0 = address_of draw / PAGE_SIZE }) Write
+operation Unmap draw = Call (Munmap (drawn_address draw) (length_of draw))
+operation Protect draw = Call (Mprotect (drawn_address draw) (length_of draw) (prot_of_bits (prot_bits_of draw)))
+operation Move draw = Call (Mremap (drawn_address draw) (length_of draw) (new_length_of draw) MREMAP_MAYMOVE 0)
+operation kinds.Read draw = Fault (record { 0 = drawn_address draw / PAGE_SIZE }) Read
+operation kinds.Write draw = Fault (record { 0 = drawn_address draw / PAGE_SIZE }) Write
 
 -- the operation of a draw
 abbrev pub operation_of : ℕ → Op
 operation_of draw = operation (kind_of draw) draw
 
 -- the line of a draw, with its number in the trace
-abbrev pub line_of : ℕ → ℕ → TraceLine
-line_of number draw = record { number = number; thread = thread_of draw; op = operation_of draw; after = None }
+abbrev pub drawn_line : ℕ → ℕ → TraceLine
+drawn_line number draw = record { number = number; thread = drawn_thread draw; op = operation_of draw; after = None }
 
 -- the lines of so many draws after a number, the first line of this number in the trace
 unfoldable pub lines_after : ℕ → ℕ → ℕ → List TraceLine
 lines_after number zero last = []
-lines_after number (suc count) last = line_of number (draw_of (next_of last)) ∷ lines_after (number + 1) count (next_of last)
+lines_after number (suc count) last = drawn_line number (draw_of (next_of last)) ∷ lines_after (number + 1) count (next_of last)
 
 -- the lines of a load: line 1 of the trace is its header
 abbrev pub load_lines : ℕ → ℕ → List TraceLine

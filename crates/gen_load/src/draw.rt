@@ -3,7 +3,7 @@
 ghost use Rattle.std.specs.Prelude.{◌≡◌};
 ghost use Rattle.trace_reader.specs.Fields.{prot_of_bits};
 ghost use Rattle.trace_reader.specs.LineTexts.{prot_word};
-ghost use Rattle.gen_load.specs.Loads.{kind_of, thread_of, address_of, length_of, prot_bits_of, new_length_of};
+ghost use Rattle.gen_load.specs.Loads.{kind_of, drawn_thread, drawn_address, length_of, prot_bits_of, new_length_of};
 
 use mm_types::PAGE_SIZE;
 
@@ -54,14 +54,14 @@ impl Draw {
 
     /// Its thread.
     pub(crate) fn thread(self) -> u64
-        ensures { result ≡ thread_of self.0 }
+        ensures { result ≡ drawn_thread self.0 }
     {
         self.0 / 8 % 4
     }
 
     /// Its address, in bytes.
     pub(crate) fn address(self) -> u64
-        ensures { result ≡ address_of self.0 }
+        ensures { result ≡ drawn_address self.0 }
     {
         FIRST_ADDRESS + PAGE_SIZE * (self.0 / 32 % PAGES)
     }

@@ -3,7 +3,7 @@
 ghost use Rattle.std.specs.Prelude.{◌≡◌, ◌≤◌, ◌++◌, false, codes, decimal, IfOk, OnOk};
 ghost use Rattle.std.specs.Fmt.{digits};
 ghost use Rattle.trace_reader.specs.LineTexts.{line_text};
-ghost use Rattle.gen_load.specs.Loads.{line_of, load_text};
+ghost use Rattle.gen_load.specs.Loads.{drawn_line, load_text};
 
 use crate::Draws;
 use crate::draw::{DRAWS, Draw, Kind};
@@ -89,7 +89,7 @@ fn push_fault(text: &mut Vec<u8>, address: u64, after: &[u8]) -> Result<(), NoMe
 
 /// Appends the line of a draw.
 fn push_line(text: &mut Vec<u8>, draw: Draw) -> Result<(), NoMemory>
-    ensures { OnOk result (text.new.items ≡ text.old.items ++ line_text (line_of 0 draw.0)) }
+    ensures { OnOk result (text.new.items ≡ text.old.items ++ line_text (drawn_line 0 draw.0)) }
 {
     let address = draw.address();
     let length = draw.length();

@@ -3,8 +3,8 @@ use Rattle.std.proofs.Common.{ℕ, ◌≡◌, ◌≤◌, ◌+◌, ◌%◌, ◌^�
 use Rattle.std.proofs.lemmas.Bool.{cases_Bool, cases_lt, cases_eq, and_from, and_left, and_right, not_from_true, not_from_false, false_from_ne_true, both_ways, le-leb, lt-ltb, le-ltb, eq-eqb, ne_eqb}
 use Rattle.grace_core.specs.declared.clearing.Clearing.{Clearing}
 use Rattle.grace_core.specs.declared.events.GraceEvent.TheVariants.{Open, Root, Word, Close, Fill, Publish, Scan, Split, Join}
-use Rattle.grace_core.specs.Core.{WriterState, numbers_of, times, has_row, since_at, clearing_at, no_clearing, pin_at, is_free, is_open}
-use Rattle.grace_core.specs.Steps.{turned, looked}
+use Rattle.grace_core.specs.Core.{WriterState, numbers_of, times, has_row, since_at, clearing_at, no_clearing, pin_at, is_free_row, is_open}
+use Rattle.grace_core.specs.Steps.{turned, cleared_by_scan}
 use Rattle.grace_core.specs.Laws.{PinsTurn, RowsStand, StandsOnce, SnapshotsStay, RowsBecomeFree, FreeRowsStay, ClearingsRise}
 use Rattle.grace_core.proofs.Elements.{one_set}
 use Rattle.grace_core.proofs.Moves.{free_parts, free_once_cleared, away, publish_free, scan_free, join_free, cleared_rises}
@@ -44,7 +44,7 @@ stands_once writer_state row = record {
 }
 
 pub snapshots_stay : SnapshotsStay
-snapshots_stay core reader tree row facts some here = false_from_ne_true (is_free core.writer_state row)
+snapshots_stay core reader tree row facts some here = false_from_ne_true (is_free_row core.writer_state row)
     (λ free. both_ways (has_row tree row) (away core.writer_state reader (pin_at core.pins reader) tree row (facts.waiting reader tree some) free) here)
 
 pub rows_become_free : RowsBecomeFree
@@ -66,6 +66,6 @@ free_rows_stay core (Join first second) row free unlisted = join_free core.write
 
 pub clearings_rise : ClearingsRise
 clearings_rise writer_state reader found other writer_facts = one_set (λ (c : Clearing). (clearing_at writer_state.clearings other).cleared ≤ c.cleared) writer_state.clearings reader other
-    (looked writer_state.tree.number found (clearing_at writer_state.clearings reader)) no_clearing (omega arith)
-    (λ same. subst (λ n. (clearing_at writer_state.clearings n).cleared ≤ (looked writer_state.tree.number found (clearing_at writer_state.clearings reader)).cleared) (sym same)
+    (cleared_by_scan writer_state.tree.number found (clearing_at writer_state.clearings reader)) no_clearing (omega arith)
+    (λ same. subst (λ n. (clearing_at writer_state.clearings n).cleared ≤ (cleared_by_scan writer_state.tree.number found (clearing_at writer_state.clearings reader)).cleared) (sym same)
     (cleared_rises writer_state.tree.number found (clearing_at writer_state.clearings reader) (writer_facts.before reader) (writer_facts.free.scanned reader)))

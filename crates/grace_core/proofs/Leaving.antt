@@ -2,16 +2,16 @@
 use Rattle.std.proofs.Common.{ℕ, zero, suc, ◌≡◌, ◌<◌, ◌≤◌, ◌+◌, ◌∙◌, ◌⊎◌, cond, true, false, not, ◌&&◌, List, [], ◌∷◌, length, set, refl, sym, ap, subst, arith, inl, inr}
 use Rattle.std.proofs.lemmas.Bool.{cases_lt, cond_both, cond-true, cond-false, and_from, and_left, not_from_false}
 use Rattle.std.proofs.lemmas.List.{get_or_past, get_or-set_same, get_or-set_other}
-use Rattle.grace_core.specs.Core.{Tree, has_row, since_at}
+use Rattle.grace_core.specs.Core.{GraceTreeView, has_row, since_at}
 use Rattle.grace_core.specs.Steps.{since_from}
 
 -- there is a number for each row
-pub length-since_from : (row : ℕ) (old new : Tree) (since : List ℕ) → length (since_from row old new since) ≡ length since
+pub length-since_from : (row : ℕ) (old new : GraceTreeView) (since : List ℕ) → length (since_from row old new since) ≡ length since
 length-since_from row old new [] = refl
 length-since_from row old new (one ∷ others) = ap suc (length-since_from (row + 1) old new others)
 
 -- whether the new tree leaves out a row says since which tree it waits
-pub since_is : (row : ℕ) (old new : Tree) (since : List ℕ) (k at : ℕ) → at ≡ row + k → k < length since
+pub since_is : (row : ℕ) (old new : GraceTreeView) (since : List ℕ) (k at : ℕ) → at ≡ row + k → k < length since
     → since_at (since_from row old new since) k ≡ cond (has_row old at && not (has_row new at)) new.number (since_at since k)
 since_is row old new [] k at same within = absurd (omega arith)
 since_is row old new (one ∷ others) zero at same within =
@@ -20,7 +20,7 @@ since_is row old new (one ∷ others) zero at same within =
 since_is row old new (one ∷ others) (suc k) at same within = since_is (row + 1) old new others k at (omega arith) (omega arith)
 
 -- a row that the new tree leaves out waits since it
-pub since_left : (old new : Tree) (since : List ℕ) (row : ℕ) → row < length since → has_row old row ≡ true → has_row new row ≡ false
+pub since_left : (old new : GraceTreeView) (since : List ℕ) (row : ℕ) → row < length since → has_row old row ≡ true → has_row new row ≡ false
     → since_at (since_from 0 old new since) row ≡ new.number
 since_left old new since row within here out =
     since_is 0 old new since row row (omega arith) within
@@ -28,7 +28,7 @@ since_left old new since row within here out =
     (and_from (has_row old row) (not (has_row new row)) here (not_from_false (has_row new row) out))
 
 -- a row that the old tree has not waits since the tree that it did
-pub since_same : (old new : Tree) (since : List ℕ) (row : ℕ) → has_row old row ≡ false
+pub since_same : (old new : GraceTreeView) (since : List ℕ) (row : ℕ) → has_row old row ≡ false
     → since_at (since_from 0 old new since) row ≡ since_at since row
 since_same old new since row out = elim (cases_lt row (length since)) [
   | inl within ↦ since_is 0 old new since row row (omega arith) within
@@ -37,7 +37,7 @@ since_same old new since row out = elim (cases_lt row (length since)) [
 ]
 
 -- no row waits since a tree after the new one
-pub since_most : (row : ℕ) (old new : Tree) (since : List ℕ) → ((k : ℕ) → since_at since k ≤ new.number)
+pub since_most : (row : ℕ) (old new : GraceTreeView) (since : List ℕ) → ((k : ℕ) → since_at since k ≤ new.number)
     → (k : ℕ) → since_at (since_from row old new since) k ≤ new.number
 since_most row old new [] most k = most k
 since_most row old new (one ∷ others) most zero =
@@ -45,7 +45,7 @@ since_most row old new (one ∷ others) most zero =
 since_most row old new (one ∷ others) most (suc k) = since_most (row + 1) old new others (λ j. most (suc j)) k
 
 -- numbers that agree with those of a publish up to a row agree one row further
-module _ (old new : Tree) (first now : List ℕ) (row : ℕ) (within : row < length first) (sized : length now ≡ length first)
+module _ (old new : GraceTreeView) (first now : List ℕ) (row : ℕ) (within : row < length first) (sized : length now ≡ length first)
     (done : (k : ℕ) → k < row → since_at now k ≡ since_at (since_from 0 old new first) k)
     (left : (k : ℕ) → row ≤ k → since_at now k ≡ since_at first k) where
   -- the rows before it do

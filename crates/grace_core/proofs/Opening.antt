@@ -4,10 +4,10 @@ use Rattle.std.proofs.lemmas.Bool.{ltb-true, cond-false}
 use Rattle.std.proofs.lemmas.Bool.Decides.{eqb_tells}
 use Rattle.std.proofs.lemmas.List.{length-replicate, get_or-replicate}
 use Rattle.grace_core.specs.declared.clearing.Clearing.{Clearing}
-use Rattle.grace_core.specs.Core.{Tree, times, no_clearing}
+use Rattle.grace_core.specs.Core.{GraceTreeView, times, no_clearing}
 use Rattle.grace_core.specs.Steps.{new_clearing}
-use Rattle.grace_core.specs.States.{opening_writer_state, opening}
-use Rattle.grace_core.specs.Facts.{WriterFacts, Facts}
+use Rattle.grace_core.specs.States.{opening_writer_state, grace_opening}
+use Rattle.grace_core.specs.Facts.{WriterFacts, GraceFacts}
 use Rattle.grace_core.proofs.Clearings.{least_number}
 use Rattle.grace_core.proofs.Moves.{free_fact}
 use Rattle.grace_core.proofs.Keeping.{facts_from}
@@ -46,10 +46,10 @@ opening_writer_facts readers rows some =
           (each_replicate (λ (c : Clearing). c.tree ≤ 0) readers new_clearing no_clearing (omega arith) (omega arith));
     }
 
-pub opening_facts : (readers rows : ℕ) → 0 < rows → Facts (opening readers rows)
-opening_facts readers rows some = facts_from (opening readers rows)
+pub opening_facts : (readers rows : ℕ) → 0 < rows → GraceFacts (grace_opening readers rows)
+opening_facts readers rows some = facts_from (grace_opening readers rows)
     (each_replicate (λ pin. pin < 2 ^ 64) readers 0 0 (omega arith) (omega arith))
     (opening_writer_facts readers rows some)
     (λ reader tree is.
-    let none = each_replicate (λ (s : Option Tree). s ≡ None) readers None None refl refl reader in
+    let none = each_replicate (λ (s : Option GraceTreeView). s ≡ None) readers None None refl refl reader in
     absurd (let e = sym none ∙ is in cc))

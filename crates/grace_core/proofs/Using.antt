@@ -9,20 +9,20 @@ use Rattle.mm_types.specs.declared.slot.Row.{Row}
 use Rattle.grace_core.specs.declared.clearing.Clearing.{Clearing}
 use Rattle.grace_core.specs.declared.events.GraceEvent.{GraceEvent}
 use Rattle.grace_core.specs.declared.events.GraceEvent.TheVariants.{Open, Root, Word, Close, Fill, Publish, Scan, Split, Join}
-use Rattle.grace_core.specs.Core.{Core, WriterState, Tree, times, has_row, since_at, numbers_of}
-use Rattle.grace_core.specs.Steps.{least, next_tree, since_from}
-use Rattle.grace_core.specs.Events.{after_event, after_scan, after_join}
-use Rattle.grace_core.specs.Facts.{Facts}
-use Rattle.grace_core.specs.Refusals.{refusal}
+use Rattle.grace_core.specs.Core.{GraceCore, WriterState, GraceTreeView, times, has_row, since_at, numbers_of}
+use Rattle.grace_core.specs.Steps.{cleared_up_to, next_tree, since_from}
+use Rattle.grace_core.specs.Events.{after_grace_event, after_scan, after_grace_join}
+use Rattle.grace_core.specs.Facts.{GraceFacts}
+use Rattle.grace_core.specs.Refusals.{grace_refusal}
 use Rattle.grace_core.specs.States.{opening_writer_state}
 use Rattle.grace_core.specs.Uses.{RowUse, use_of, all_cleared, reclaimed, published_use, use_after, UsesChange, UsesBegin}
 use Rattle.grace_core.proofs.Leaving.{since_left, since_same}
 
 -- every reader is cleared up to a tree where the least tree up to which one is cleared is that one or a later one
-least_all : (tree number : ℕ) (clearings : List Clearing) → tree ≤ number → nat_le tree (least number clearings) ≡ all_cleared clearings tree
+least_all : (tree number : ℕ) (clearings : List Clearing) → tree ≤ number → nat_le tree (cleared_up_to number clearings) ≡ all_cleared clearings tree
 least_all tree number [] below = le-leb tree number below
 least_all tree number (clearing ∷ clearings) below =
-    one clearing.joined tree clearing.cleared (least number clearings) (all_cleared clearings tree) (least_all tree number clearings below)
+    one clearing.joined tree clearing.cleared (cleared_up_to number clearings) (all_cleared clearings tree) (least_all tree number clearings below)
   where
     both : (tree cleared rest : ℕ) → nat_le tree (min cleared rest) ≡ (nat_le tree cleared && nat_le tree rest)
     both tree cleared rest = grind (arith, nat_tests)
@@ -34,17 +34,17 @@ least_all tree number (clearing ∷ clearings) below =
 
 -- a row that is not of the present tree, where a grace period passes
 settled_use : (passed number since : ℕ) (clearings : List Clearing) → since ≤ number
-    → (if nat_le since (max passed (least number clearings)) then RowUse.Free else RowUse.Waits since)
+    → (if nat_le since (max passed (cleared_up_to number clearings)) then RowUse.Free else RowUse.Waits since)
     ≡ reclaimed clearings (if nat_le since passed then RowUse.Free else RowUse.Waits since)
 settled_use passed number since clearings below = elim (cases_lt passed since) [
   | inl before ↦
       let now : nat_le since passed ≡ false = later since passed before in
       ap (λ b. if b then RowUse.Free else RowUse.Waits since)
-      (past since passed (least number clearings) before ∙ least_all since number clearings below)
+      (past since passed (cleared_up_to number clearings) before ∙ least_all since number clearings below)
       ∙ sym (ap (reclaimed clearings) (cond-false (nat_le since passed) RowUse.Free (RowUse.Waits since) now))
   | inr after ↦
-      cond-true (nat_le since (max passed (least number clearings))) RowUse.Free (RowUse.Waits since)
-      (le-leb since (max passed (least number clearings)) (omega (arith, after)))
+      cond-true (nat_le since (max passed (cleared_up_to number clearings))) RowUse.Free (RowUse.Waits since)
+      (le-leb since (max passed (cleared_up_to number clearings)) (omega (arith, after)))
       ∙ sym (ap (reclaimed clearings) (cond-true (nat_le since passed) RowUse.Free (RowUse.Waits since) (le-leb since passed after)))
 ]
   where
@@ -72,9 +72,9 @@ fails true answer rest none = cc
 fails false answer rest none = refl
 
 -- a publish that is not refused has the next number
-next_number : (core : Core) (number : ℕ) (rows : List Row) → refusal core (Publish number rows) ≡ None
+next_number : (core : GraceCore) (number : ℕ) (rows : List Row) → grace_refusal core (Publish number rows) ≡ None
     → number ≡ core.writer_state.tree.number + 1
-unfolding refusal
+unfolding grace_refusal
 next_number core number rows none =
     eqb-true number (core.writer_state.tree.number + 1)
     (right (nat_eq number (core.writer_state.tree.number + 1)) (fails _ _ _ none))
@@ -83,8 +83,8 @@ next_number core number rows none =
     right true is = refl
     right false is = cc
 
-publish_use : (core : Core) (number : ℕ) (rows : List Row) (row : ℕ) → Facts core → number ≡ core.writer_state.tree.number + 1
-    → use_of (after_event core (Publish number rows)).writer_state row ≡ use_after core (Publish number rows) row (use_of core.writer_state row)
+publish_use : (core : GraceCore) (number : ℕ) (rows : List Row) (row : ℕ) → GraceFacts core → number ≡ core.writer_state.tree.number + 1
+    → use_of (after_grace_event core (Publish number rows)).writer_state row ≡ use_after core (Publish number rows) row (use_of core.writer_state row)
 publish_use core number rows row facts next = elim (cases_Bool listed) [
   | inl here ↦
       cond-true listed RowUse.Present _ here
@@ -97,7 +97,7 @@ publish_use core number rows row facts next = elim (cases_Bool listed) [
     writer_state : WriterState
     writer_state = core.writer_state
 
-    new : Tree
+    new : GraceTreeView
     new = next_tree writer_state number (numbers_of rows)
 
     listed : Bool
@@ -107,7 +107,7 @@ publish_use core number rows row facts next = elim (cases_Bool listed) [
     since = since_at writer_state.since row
 
     after : ℕ → RowUse
-    after n = if nat_le n (max writer_state.passed (least number writer_state.clearings)) then RowUse.Free else RowUse.Waits n
+    after n = if nat_le n (max writer_state.passed (cleared_up_to number writer_state.clearings)) then RowUse.Free else RowUse.Waits n
 
     now : RowUse
     now = if nat_le since writer_state.passed then RowUse.Free else RowUse.Waits since
@@ -151,7 +151,7 @@ uses_change core (Scan reader) row facts accepted =
 uses_change core (Split reader) row facts accepted = refl
 uses_change core (Join first second) row facts accepted =
     let writer_state = core.writer_state in
-    let clearings = (after_join core second).writer_state.clearings in
+    let clearings = (after_grace_join core second).writer_state.clearings in
     by_tree clearings (has_row writer_state.tree row) _ _
     (settled_use writer_state.passed writer_state.tree.number (since_at writer_state.since row) clearings (facts.writer_facts.since row))
 

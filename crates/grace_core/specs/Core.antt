@@ -4,7 +4,7 @@ use Rattle.mm_types.specs.declared.slot.Row.{Row}
 use Rattle.grace_core.specs.declared.clearing.Clearing.{Clearing}
 
 -- a tree: its number, its rows, of which the first is the root, and the words that all rows had when it was published
-pub record Tree : Type 0 where
+pub record GraceTreeView : Type 0 where
   pub number : ℕ
   pub rows : List ℕ
   pub words : List (List ℕ)
@@ -14,17 +14,17 @@ pub record Tree : Type 0 where
 -- every reader was cleared up to it.
 pub record WriterState : Type 0 where
   pub width : ℕ
-  pub tree : Tree
+  pub tree : GraceTreeView
   pub words : List (List ℕ)
   pub since : List ℕ
   pub clearings : List Clearing
   pub passed : ℕ
 
 -- a state: what the writer knows, and the pin and the snapshot of each reader
-pub record Core : Type 0 where
+pub record GraceCore : Type 0 where
   pub writer_state : WriterState
   pub pins : List ℕ
-  pub snapshots : List (Option Tree)
+  pub snapshots : List (Option GraceTreeView)
 
 -- the numbers of rows
 abbrev pub numbers_of : List Row → List ℕ
@@ -35,11 +35,11 @@ abbrev pub times : ℕ → List ℕ → ℕ
 times row rows = count_by (λ other. nat_eq other row) rows
 
 -- whether a tree has a row
-abbrev pub has_row : Tree → ℕ → Bool
+abbrev pub has_row : GraceTreeView → ℕ → Bool
 has_row tree row = nat_lt 0 (times row tree.rows)
 
 -- the root of a tree
-abbrev pub root_of : Tree → ℕ
+abbrev pub root_of : GraceTreeView → ℕ
 root_of tree = slice_index_or tree.rows 0 0
 
 -- the words of a row
@@ -63,12 +63,12 @@ abbrev pub pin_at : List ℕ → ℕ → ℕ
 pin_at pins reader = slice_index_or pins reader 0
 
 -- a reader's snapshot: the tree whose root it loaded last since it opened
-abbrev pub snapshot_at : List (Option Tree) → ℕ → Option Tree
+abbrev pub snapshot_at : List (Option GraceTreeView) → ℕ → Option GraceTreeView
 snapshot_at snapshots reader = slice_index_or snapshots reader None
 
 -- whether a row is free: it is not of the present tree, and the grace period of the tree that left it out has passed
-abbrev pub is_free : WriterState → ℕ → Bool
-is_free writer_state row = not (has_row writer_state.tree row) && nat_le (since_at writer_state.since row) writer_state.passed
+abbrev pub is_free_row : WriterState → ℕ → Bool
+is_free_row writer_state row = not (has_row writer_state.tree row) && nat_le (since_at writer_state.since row) writer_state.passed
 
 -- whether a row waits: it is not of the present tree, and that grace period has not passed
 abbrev pub waits : WriterState → ℕ → Bool
@@ -77,6 +77,10 @@ waits writer_state row = not (has_row writer_state.tree row) && nat_lt writer_st
 -- whether a reader is open: its pin is odd
 abbrev pub is_open : ℕ → Bool
 is_open pin = nat_eq (pin % 2) 1
+
+-- whether a reader is outside: its pin is even
+abbrev pub is_outside : ℕ → Bool
+is_outside pin = nat_eq (pin % 2) 0
 
 -- a reader was made, and was not joined away
 abbrev pub Exists : List Clearing → ℕ → Type 0

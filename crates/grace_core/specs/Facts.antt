@@ -1,28 +1,28 @@
 -- What every state of the grace protocol keeps.
 use Rattle.std.specs.Prelude.{ℕ, ◌≡◌, ◌≤◌, ◌<◌, ◌%◌, ◌^◌, true, false, List, length, Some}
 use Rattle.grace_core.specs.declared.clearing.Clearing.{Clearing}
-use Rattle.grace_core.specs.Core.{Tree, WriterState, Core, has_row, row_at, since_at, clearing_at, pin_at, snapshot_at, is_free, Exists}
-use Rattle.grace_core.specs.Steps.{least}
+use Rattle.grace_core.specs.Core.{GraceTreeView, WriterState, GraceCore, has_row, row_at, since_at, clearing_at, pin_at, snapshot_at, is_free_row, Exists}
+use Rattle.grace_core.specs.Steps.{cleared_up_to}
 
 -- the rows of a tree exist, and have the words that they had when the tree was published
-pub record KeepsWords (words : List (List ℕ)) (tree : Tree) : Type 0 where
+pub record KeepsWords (words : List (List ℕ)) (tree : GraceTreeView) : Type 0 where
   pub exist : (row : ℕ) → has_row tree row ≡ true → row < length words
   pub same : (row : ℕ) → has_row tree row ≡ true → row_at words row ≡ row_at tree.words row
 
 -- A row that waits since tree t is held for a reader: the grace period of t has not passed, the reader is cleared up to a
 -- tree below t, and where its last scan was made at t or later, that scan found the pin that the reader has now.
-pub record IsHeld (passed : ℕ) (clearing : Clearing) (pin t : ℕ) : Type 0 where
+pub record IsRowHeld (passed : ℕ) (clearing : Clearing) (pin t : ℕ) : Type 0 where
   pub not_free : passed < t
   pub below : clearing.cleared < t
   pub found : t ≤ clearing.tree → clearing.pin ≡ pin
 
 -- the rows of a reader's snapshot that the present tree has no more are held for the reader
-abbrev pub HoldsRows : WriterState → ℕ → ℕ → Tree → Type 0
+abbrev pub HoldsRows : WriterState → ℕ → ℕ → GraceTreeView → Type 0
 HoldsRows writer_state reader pin tree = (row : ℕ) → has_row tree row ≡ true → has_row writer_state.tree row ≡ false
-    → IsHeld writer_state.passed (clearing_at writer_state.clearings reader) pin (since_at writer_state.since row)
+    → IsRowHeld writer_state.passed (clearing_at writer_state.clearings reader) pin (since_at writer_state.since row)
 
 -- what is kept of a reader that has a snapshot of a tree: it is open and counts, and the tree's rows stay as they are
-pub record Keeps (writer_state : WriterState) (reader pin : ℕ) (tree : Tree) : Type 0 where
+pub record Keeps (writer_state : WriterState) (reader pin : ℕ) (tree : GraceTreeView) : Type 0 where
   pub odd : pin % 2 ≡ 1
   pub exists : Exists writer_state.clearings reader
   pub words : KeepsWords writer_state.words tree
@@ -42,27 +42,27 @@ pub record WriterFacts (writer_state : WriterState) : Type 0 where
   pub since : (row : ℕ) → since_at writer_state.since row ≤ writer_state.tree.number
   pub before : (reader : ℕ) → (clearing_at writer_state.clearings reader).cleared ≤ (clearing_at writer_state.clearings reader).tree
   pub passed : writer_state.passed ≤ writer_state.tree.number
-  pub reached : least writer_state.tree.number writer_state.clearings ≤ writer_state.passed
+  pub reached : cleared_up_to writer_state.tree.number writer_state.clearings ≤ writer_state.passed
   pub free : FreeFact writer_state
 
 -- The pin fact: a pin fits a word, and only a reader that exists and is open, so that its pin is odd, has a snapshot.
-pub record PinFact (core : Core) : Type 0 where
+pub record PinFact (core : GraceCore) : Type 0 where
   pub fits : (reader : ℕ) → pin_at core.pins reader < 2 ^ 64
-  pub only_open : (reader : ℕ) (tree : Tree) → snapshot_at core.snapshots reader ≡ Some tree
+  pub only_open : (reader : ℕ) (tree : GraceTreeView) → snapshot_at core.snapshots reader ≡ Some tree
       → (pin_at core.pins reader % 2 ≡ 1) × Exists core.writer_state.clearings reader
 
 -- the snapshot fact: each row of a snapshot has the words that it had when the root was loaded
-abbrev pub SnapshotFact : Core → Type 0
-SnapshotFact core = (reader : ℕ) (tree : Tree) → snapshot_at core.snapshots reader ≡ Some tree → KeepsWords core.writer_state.words tree
+abbrev pub SnapshotFact : GraceCore → Type 0
+SnapshotFact core = (reader : ℕ) (tree : GraceTreeView) → snapshot_at core.snapshots reader ≡ Some tree → KeepsWords core.writer_state.words tree
 
 -- The waiting fact: a row of a snapshot is not free. Where it waits since tree t, its reader is cleared up to a tree below
 -- t, and where the reader's last scan was made at t or later, that scan found the pin that the reader has now.
-abbrev pub WaitingFact : Core → Type 0
-WaitingFact core = (reader : ℕ) (tree : Tree) → snapshot_at core.snapshots reader ≡ Some tree
+abbrev pub WaitingFact : GraceCore → Type 0
+WaitingFact core = (reader : ℕ) (tree : GraceTreeView) → snapshot_at core.snapshots reader ≡ Some tree
     → HoldsRows core.writer_state reader (pin_at core.pins reader) tree
 
 -- the four facts of a state, of which the writer_facts has the free fact, with what else it keeps
-pub record Facts (core : Core) : Type 0 where
+pub record GraceFacts (core : GraceCore) : Type 0 where
   pub pins : PinFact core
   pub snapshots : SnapshotFact core
   pub waiting : WaitingFact core

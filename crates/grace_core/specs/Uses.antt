@@ -4,10 +4,10 @@ use Rattle.std.specs.List.{list_all}
 use Rattle.grace_core.specs.declared.clearing.Clearing.{Clearing}
 use Rattle.grace_core.specs.declared.events.GraceEvent.{GraceEvent}
 use Rattle.grace_core.specs.declared.events.GraceEvent.TheVariants.{Publish, Scan, Join}
-use Rattle.grace_core.specs.Core.{Core, WriterState, times, has_row, since_at, numbers_of}
-use Rattle.grace_core.specs.Events.{after_event, after_scan, after_join}
-use Rattle.grace_core.specs.Facts.{Facts}
-use Rattle.grace_core.specs.Refusals.{refusal}
+use Rattle.grace_core.specs.Core.{GraceCore, WriterState, times, has_row, since_at, numbers_of}
+use Rattle.grace_core.specs.Events.{after_grace_event, after_scan, after_grace_join}
+use Rattle.grace_core.specs.Facts.{GraceFacts}
+use Rattle.grace_core.specs.Refusals.{grace_refusal}
 use Rattle.grace_core.specs.States.{opening_writer_state}
 
 -- a row is of the present tree, or free, or waits since the tree whose publish left it out
@@ -39,17 +39,17 @@ published_use number false RowUse.Free = RowUse.Free
 published_use number false (RowUse.Waits tree) = RowUse.Waits tree
 
 -- the use of a row after an event: a publish, a scan and a join change it, and no other
-abbrev pub use_after : Core → GraceEvent → ℕ → RowUse → RowUse
+abbrev pub use_after : GraceCore → GraceEvent → ℕ → RowUse → RowUse
 use_after core (Publish number rows) row was =
     reclaimed core.writer_state.clearings (published_use number (nat_lt 0 (times row (numbers_of rows))) was)
 use_after core (Scan reader) row was = reclaimed (after_scan core reader).writer_state.clearings was
-use_after core (Join first second) row was = reclaimed (after_join core second).writer_state.clearings was
+use_after core (Join first second) row was = reclaimed (after_grace_join core second).writer_state.clearings was
 use_after core _ row was = was
 
 -- each event changes the uses of the rows so
 abbrev pub UsesChange : Type 0
-UsesChange = (core : Core) (event : GraceEvent) (row : ℕ) → Facts core → refusal core event ≡ None
-    → use_of (after_event core event).writer_state row ≡ use_after core event row (use_of core.writer_state row)
+UsesChange = (core : GraceCore) (event : GraceEvent) (row : ℕ) → GraceFacts core → grace_refusal core event ≡ None
+    → use_of (after_grace_event core event).writer_state row ≡ use_after core event row (use_of core.writer_state row)
 
 -- at first row 0 is of the present tree, and each other row is free
 abbrev pub UsesBegin : Type 0

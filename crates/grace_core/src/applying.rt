@@ -3,7 +3,7 @@
 ghost use Rattle.std.specs.Prelude.{◌≡◌, ◌<◌, ◌^◌, All, length, MatchResult};
 ghost use Rattle.grace_core.specs.declared.events.GraceEvent.TheVariants.{Open, Root, Word, Close, Fill, Publish, Scan, Split, Join};
 ghost use Rattle.grace_core.specs.declared.events.GraceRefusal.TheVariants.{NoMemory};
-ghost use Rattle.grace_core.specs.States.{IsPossible, IsDone, IsRefused, IsStep, HasReader, HasRow, CanJoin};
+ghost use Rattle.grace_core.specs.States.{IsPossible, IsGraceStepDone, IsGraceStepRefused, IsGraceStep, HasReader, HasRow, CanJoin};
 
 use crate::events::{GraceAnswer, GraceEvent, GraceRefusal};
 use crate::rows::Rows;
@@ -25,7 +25,7 @@ pub fn apply(
 ) -> Result<(GraceState, GraceAnswer), (GraceState, GraceRefusal)>
     requires readers { length state.pins < 2 ^ 31 }
     requires possible { IsPossible state event }
-    ensures { MatchResult result (λ done. IsDone state event done.0 done.1) (λ refused. IsRefused state event refused.0 refused.1) }
+    ensures { MatchResult result (λ done. IsGraceStepDone state event done.0 done.1) (λ refused. IsGraceStepRefused state event refused.0 refused.1) }
 {
     let mut state = state;
     match state.step(event) {
@@ -39,7 +39,7 @@ impl GraceState {
     fn step(&mut self, event: GraceEvent) -> Result<GraceAnswer, GraceRefusal>
         requires readers { length self.old.pins < 2 ^ 31 }
         requires possible { IsPossible self.old event }
-        ensures { IsStep self.old event result self.new }
+        ensures { IsGraceStep self.old event result self.new }
     {
         match event {
             GraceEvent::Open(reader) => self.open(reader),
@@ -54,10 +54,10 @@ impl GraceState {
         }
     }
 
-    #[tactic(auto, unfolding(crate::specs::Refusals::refusal))]
+    #[tactic(auto, unfolding(crate::specs::Refusals::grace_refusal))]
     fn open(&mut self, reader: u32) -> Result<GraceAnswer, GraceRefusal>
         requires { HasReader self.old reader }
-        ensures { IsStep self.old (Open reader) result self.new }
+        ensures { IsGraceStep self.old (Open reader) result self.new }
     {
         if self.protocol.is_open(reader) {
             return Err(GraceRefusal::AlreadyOpen);
@@ -66,10 +66,10 @@ impl GraceState {
         Ok(GraceAnswer::Done)
     }
 
-    #[tactic(auto, unfolding(crate::specs::Refusals::refusal))]
+    #[tactic(auto, unfolding(crate::specs::Refusals::grace_refusal))]
     fn load_root(&mut self, reader: u32) -> Result<GraceAnswer, GraceRefusal>
         requires { HasReader self.old reader }
-        ensures { IsStep self.old (Root reader) result self.new }
+        ensures { IsGraceStep self.old (Root reader) result self.new }
     {
         if !self.protocol.is_open(reader) {
             return Err(GraceRefusal::NotOpen);
@@ -80,9 +80,9 @@ impl GraceState {
         Ok(GraceAnswer::Tree { tree, row })
     }
 
-    #[tactic(auto, unfolding(crate::specs::Refusals::refusal))]
+    #[tactic(auto, unfolding(crate::specs::Refusals::grace_refusal))]
     fn word(&mut self, reader: u32, row: Row) -> Result<GraceAnswer, GraceRefusal>
-        ensures { IsStep self.old (Word reader row) result self.new }
+        ensures { IsGraceStep self.old (Word reader row) result self.new }
     {
         if !self.protocol.is_open(reader) {
             return Err(GraceRefusal::NotOpen);
@@ -93,10 +93,10 @@ impl GraceState {
         Ok(GraceAnswer::Word(self.protocol.word(reader, row)))
     }
 
-    #[tactic(auto, unfolding(crate::specs::Refusals::refusal))]
+    #[tactic(auto, unfolding(crate::specs::Refusals::grace_refusal))]
     fn close(&mut self, reader: u32) -> Result<GraceAnswer, GraceRefusal>
         requires { HasReader self.old reader }
-        ensures { IsStep self.old (Close reader) result self.new }
+        ensures { IsGraceStep self.old (Close reader) result self.new }
     {
         if !self.protocol.is_open(reader) {
             return Err(GraceRefusal::NotOpen);
@@ -105,10 +105,10 @@ impl GraceState {
         Ok(GraceAnswer::Done)
     }
 
-    #[tactic(auto, unfolding(crate::specs::Refusals::refusal))]
+    #[tactic(auto, unfolding(crate::specs::Refusals::grace_refusal))]
     fn fill(&mut self, row: Row, word: u64) -> Result<GraceAnswer, GraceRefusal>
         requires { HasRow self.old row.0 }
-        ensures { IsStep self.old (Fill row word) result self.new }
+        ensures { IsGraceStep self.old (Fill row word) result self.new }
     {
         if !self.protocol.writer_state().is_free(row) {
             return Err(GraceRefusal::RowNotFree(row));
@@ -117,10 +117,10 @@ impl GraceState {
         Ok(GraceAnswer::Done)
     }
 
-    #[tactic(auto, unfolding(crate::specs::Refusals::refusal))]
+    #[tactic(auto, unfolding(crate::specs::Refusals::grace_refusal))]
     fn publish(&mut self, tree: u64, rows: Rows) -> Result<GraceAnswer, GraceRefusal>
         requires { All (λ row. HasRow self.old row.0) rows }
-        ensures { IsStep self.old (Publish tree rows) result self.new }
+        ensures { IsGraceStep self.old (Publish tree rows) result self.new }
     {
         if !self.protocol.writer_state().is_next(tree) {
             return Err(GraceRefusal::WrongTree(tree));
@@ -132,30 +132,30 @@ impl GraceState {
         Ok(GraceAnswer::Done)
     }
 
-    #[tactic(auto, unfolding(crate::specs::Refusals::refusal))]
+    #[tactic(auto, unfolding(crate::specs::Refusals::grace_refusal))]
     fn scan(&mut self, reader: u32) -> Result<GraceAnswer, GraceRefusal>
         requires { HasReader self.old reader }
-        ensures { IsStep self.old (Scan reader) result self.new }
+        ensures { IsGraceStep self.old (Scan reader) result self.new }
     {
         let pin = self.protocol.pin(reader);
         self.protocol.scan(reader);
         Ok(GraceAnswer::Pin(pin))
     }
 
-    #[tactic(auto, unfolding(crate::specs::Refusals::refusal))]
+    #[tactic(auto, unfolding(crate::specs::Refusals::grace_refusal))]
     fn split(&mut self, reader: u32) -> Result<GraceAnswer, GraceRefusal>
         requires { length self.old.pins < 2 ^ 31 }
-        ensures { IsStep self.old (Split reader) result self.new }
+        ensures { IsGraceStep self.old (Split reader) result self.new }
     {
         let made = self.protocol.readers() as u32;
         self.protocol.split()?;
         Ok(GraceAnswer::Made(made))
     }
 
-    #[tactic(auto, unfolding(crate::specs::Refusals::refusal))]
+    #[tactic(auto, unfolding(crate::specs::Refusals::grace_refusal))]
     fn join(&mut self, first: u32, second: u32) -> Result<GraceAnswer, GraceRefusal>
         requires { CanJoin self.old first second }
-        ensures { IsStep self.old (Join first second) result self.new }
+        ensures { IsGraceStep self.old (Join first second) result self.new }
     {
         self.protocol.join(second);
         Ok(GraceAnswer::Done)

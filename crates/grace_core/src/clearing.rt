@@ -1,5 +1,5 @@
 ghost use Rattle.std.specs.Prelude.{◌≡◌};
-ghost use Rattle.grace_core.specs.Steps.{looked, least};
+ghost use Rattle.grace_core.specs.Steps.{cleared_by_scan, cleared_up_to};
 
 /// What the scans of a reader's pin found.
 #[derive(Clone, Copy, Debug, PartialEq, Eq)]
@@ -26,7 +26,7 @@ impl Clearing {
     /// The same with one scan more, which finds this pin while the tree of this number is present. An even pin clears the reader
     /// up to the present tree. An odd one that is not the pin of the last scan clears it up to the tree that was present then.
     pub fn looked(self, number: u64, pin: u64) -> Clearing
-        ensures { result ≡ looked number pin self }
+        ensures { result ≡ cleared_by_scan number pin self }
     {
         let cleared = if pin % 2 == 0 {
             number
@@ -46,7 +46,7 @@ impl Clearing {
 
 /// The greatest tree, up to this one, up to which every reader is cleared that was not joined away.
 pub fn least(number: u64, clearings: &[Clearing]) -> u64
-    ensures { result ≡ least number clearings.now }
+    ensures { result ≡ cleared_up_to number clearings.now }
 {
     let mut least = number;
     for clearing in clearings {

@@ -1,8 +1,8 @@
 ghost use Rattle.std.specs.Prelude.{◌≡◌, ◌<◌, All, IfOk, MatchResult, length};
 ghost use Rattle.grace_core.specs.Core.{pin_at, snapshot_at, is_open, numbers_of};
-ghost use Rattle.grace_core.specs.Events.{word_of, after_open, after_root, after_close, after_fill, after_publish, after_scan, after_split, after_join};
+ghost use Rattle.grace_core.specs.Events.{snapshot_word, after_open, after_root, after_close, after_fill, after_publish, after_scan, after_grace_split, after_grace_join};
 ghost use Rattle.grace_core.specs.Refusals.{shows};
-ghost use Rattle.grace_core.specs.States.{opening};
+ghost use Rattle.grace_core.specs.States.{grace_opening};
 
 use crate::tree::GraceTree;
 use crate::writer_state::GraceWriter;
@@ -20,20 +20,20 @@ pub(crate) struct GraceProtocol {
 }
 
 impl Model for GraceProtocol {
-    ghost use Rattle.grace_core.specs.Core.{Core};
+    ghost use Rattle.grace_core.specs.Core.{GraceCore};
 
-    ghost Value = { Core };
+    ghost Value = { GraceCore };
 
-    ghost use Rattle.grace_core.specs.Internal.Kept.{core_of};
+    ghost use Rattle.grace_core.specs.Internal.Kept.{grace_core_of};
 
-    ghost view = { core_of };
+    ghost view = { grace_core_of };
 }
 
 impl GraceProtocol {
     /// The state before anything happened.
     pub(crate) fn new(alloc: Global, readers: u32, rows: u32) -> Result<GraceProtocol, NoMemory>
         requires { 0 < rows }
-        ensures { IfOk result (λ state. state ≡ opening readers rows) }
+        ensures { IfOk result (λ state. state ≡ grace_opening readers rows) }
     {
         let mut snapshots = Vec::new(alloc);
         for _ in 0..readers {
@@ -86,7 +86,7 @@ impl GraceProtocol {
 
     /// The word that a row has in a reader's snapshot.
     pub(crate) fn word(&self, reader: u32, row: Row) -> u64
-        ensures { result ≡ word_of (snapshot_at self.now.snapshots reader) row.0 }
+        ensures { result ≡ snapshot_word (snapshot_at self.now.snapshots reader) row.0 }
     {
         match self.snapshots.get(reader as usize) {
             Some(Some(tree)) => tree.word(row),
@@ -151,7 +151,7 @@ impl GraceProtocol {
 
     /// Makes one reader more.
     pub(crate) fn split(&mut self) -> Result<(), NoMemory>
-        ensures { MatchResult result (λ _. self.new ≡ after_split self.old) (λ _. self.new ≡ self.old) }
+        ensures { MatchResult result (λ _. self.new ≡ after_grace_split self.old) (λ _. self.new ≡ self.old) }
     {
         let (pins, snapshots) = (self.pins.len(), self.snapshots.len());
         self.pins.push(0)?;
@@ -167,7 +167,7 @@ impl GraceProtocol {
     /// No longer counts a reader.
     pub(crate) fn join(&mut self, reader: u32)
         requires { reader < length self.old.writer_state.clearings }
-        ensures { self.new ≡ after_join self.old reader }
+        ensures { self.new ≡ after_grace_join self.old reader }
     {
         self.writer_state.join(reader);
     }

@@ -1,7 +1,7 @@
 ghost use Rattle.std.specs.Prelude.{◌≡◌, ◌<◌, ◌≤◌, ◌^◌, ◌↔◌, IfOk, IsTrue, length};
-ghost use Rattle.grace_core.specs.Core.{pin_at, is_free, waits, root_of};
-ghost use Rattle.grace_core.specs.Facts.{Facts};
-ghost use Rattle.grace_core.specs.States.{opening, HasReader, HasRow};
+ghost use Rattle.grace_core.specs.Core.{pin_at, is_free_row, waits, root_of};
+ghost use Rattle.grace_core.specs.Facts.{GraceFacts};
+ghost use Rattle.grace_core.specs.States.{grace_opening, HasReader, HasRow};
 
 use crate::protocol::GraceProtocol;
 use mm_types::{NoMemory, Row};
@@ -15,15 +15,15 @@ pub struct GraceState {
 }
 
 impl Model for GraceState {
-    ghost use Rattle.grace_core.specs.Core.{Core};
+    ghost use Rattle.grace_core.specs.Core.{GraceCore};
 
-    ghost Value = { Core };
+    ghost Value = { GraceCore };
 
-    ghost use Rattle.grace_core.specs.Internal.Kept.{IsKept};
+    ghost use Rattle.grace_core.specs.Internal.Kept.{IsGraceKept};
 
     ghost view = { λ state. state.protocol };
 
-    ghost invariant = { IsKept };
+    ghost invariant = { IsGraceKept };
 }
 
 impl GraceState {
@@ -32,7 +32,7 @@ impl GraceState {
     pub fn new(alloc: Global, readers: u32, rows: u32) -> Result<GraceState, NoMemory>
         requires readers { readers < 2 ^ 31 }
         requires rows { 0 < rows }
-        ensures { IfOk result (λ state. state ≡ opening readers rows) }
+        ensures { IfOk result (λ state. state ≡ grace_opening readers rows) }
     {
         let protocol = GraceProtocol::new(alloc, readers, rows)?;
         Ok(GraceState { protocol })
@@ -41,7 +41,7 @@ impl GraceState {
     /// The number of the present tree. Of every state the four facts hold.
     pub fn tree(&self) -> u64
         ensures tree { result ≡ self.now.writer_state.tree.number }
-        ensures facts { Facts self.now }
+        ensures facts { GraceFacts self.now }
     {
         self.protocol.writer_state().tree().number()
     }
@@ -86,7 +86,7 @@ impl GraceState {
     /// Whether a row is free.
     pub fn is_free(&self, row: Row) -> bool
         requires { HasRow self.now row.0 }
-        ensures { result ≡ is_free self.now.writer_state row.0 }
+        ensures { result ≡ is_free_row self.now.writer_state row.0 }
     {
         self.protocol.writer_state().is_free(row)
     }

@@ -1,8 +1,9 @@
 //! A tree as it was published.
 
-ghost use Rattle.std.specs.Prelude.{◌≡◌, ◌<◌, ◌&&◌, not, All, IfOk, slice_index, length};
+ghost use Rattle.std.specs.Prelude.{◌≡◌, ◌<◌, All, IfOk, slice_index, length};
 ghost use Rattle.grace_core.specs.Core.{has_row, root_of, row_at, numbers_of};
-ghost use Rattle.grace_core.specs.Internal.Trees.{rows_of, AreMarks};
+ghost use Rattle.grace_core.specs.Internal.Trees.{rows_of_words, AreMarks};
+ghost use Rattle.grace_core.specs.Steps.{leaves_out};
 
 use mm_types::{NoMemory, Row};
 use std::alloc::Global;
@@ -20,15 +21,15 @@ pub struct GraceTree {
 }
 
 impl Model for GraceTree {
-    ghost use Rattle.grace_core.specs.Core.{Tree};
+    ghost use Rattle.grace_core.specs.Core.{GraceTreeView};
 
-    ghost Value = { Tree };
+    ghost Value = { GraceTreeView };
 
-    ghost use Rattle.grace_core.specs.Internal.Trees.{tree_of, IsMarked};
+    ghost use Rattle.grace_core.specs.Internal.Trees.{grace_tree_of, AreRowsMarked};
 
-    ghost view = { tree_of };
+    ghost view = { grace_tree_of };
 
-    ghost invariant = { IsMarked };
+    ghost invariant = { AreRowsMarked };
 }
 
 /// For each of so many rows, whether it is among these.
@@ -52,7 +53,7 @@ impl GraceTree {
         words: &[u64],
     ) -> Result<GraceTree, NoMemory>
         requires { All (λ row. row.0 < length words.now) rows.items }
-        ensures { IfOk result (λ tree. tree ≡ record { number = number; rows = numbers_of rows.items; words = rows_of words.now }) }
+        ensures { IfOk result (λ tree. tree ≡ record { number = number; rows = numbers_of rows.items; words = rows_of_words words.now }) }
     {
         let marks = marked(alloc, words.len(), rows.as_slice())?;
         let words = Vec::from_slice(alloc, words)?;
@@ -107,7 +108,7 @@ impl GraceTree {
 
     /// Whether it leaves out a row of an older tree.
     pub(crate) fn leaves_out(&self, old: &GraceTree, row: Row) -> bool
-        ensures { result ≡ (has_row old.now row.0 && not (has_row self.now row.0)) }
+        ensures { result ≡ leaves_out old.now self.now row.0 }
     {
         old.has(row) && !self.has(row)
     }

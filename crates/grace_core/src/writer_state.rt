@@ -1,7 +1,7 @@
 //! What the writer knows, which nobody else changes.
 
 ghost use Rattle.std.specs.Prelude.{◌≡◌, ◌<◌, ◌+◌, ◌^◌, nat_eq, All, find, IfOk, MatchResult, length};
-ghost use Rattle.grace_core.specs.Core.{times, is_free, waits, since_at, clearing_at, numbers_of};
+ghost use Rattle.grace_core.specs.Core.{times, is_free_row, waits, since_at, clearing_at, numbers_of};
 ghost use Rattle.grace_core.specs.Steps.{since_from, elapsed, filled, published, scanned, split, joined};
 ghost use Rattle.grace_core.specs.Refusals.{is_unfit};
 ghost use Rattle.grace_core.specs.States.{opening_writer_state};
@@ -38,11 +38,11 @@ impl Model for GraceWriter {
 
     ghost Value = { WriterState };
 
-    ghost use Rattle.grace_core.specs.Internal.Trees.{writer_state_of, IsSized};
+    ghost use Rattle.grace_core.specs.Internal.Trees.{writer_state_of, AreRowsNumbered};
 
     ghost view = { writer_state_of };
 
-    ghost invariant = { IsSized };
+    ghost invariant = { AreRowsNumbered };
 }
 
 impl GraceWriter {
@@ -103,7 +103,7 @@ impl GraceWriter {
 
     /// Whether a row is free.
     pub(crate) fn is_free(&self, row: Row) -> bool
-        ensures { result ≡ is_free self.now row.0 }
+        ensures { result ≡ is_free_row self.now row.0 }
     {
         !self.tree.has(row) && self.since(row) <= self.passed
     }

@@ -25,7 +25,7 @@ use Rattle.area_rules.specs.Verdicts.{verdict}
 use Rattle.area_rules.proofs.Touching.{step-touch}
 use Rattle.history.specs.declared.items.Content.{Content}
 use Rattle.history.specs.declared.items.Content.TheVariants as contents
-use Rattle.history.specs.Histories.{read_as, asks_for, AsksItself, AskThemselves, call_of, IsMade, IsRight, answer_by, space_by, version_by, answer_of, space_after, version_after}
+use Rattle.history.specs.Histories.{read_as, asks_for, AsksItself, AskThemselves, call_made, IsMade, IsRight, answer_by, space_by, version_by, answer_of, space_after, version_after}
 use Rattle.history.specs.Runs.{HasGrown}
 
 -- what makes a call is what asks for it
@@ -35,9 +35,9 @@ unfolding asks_for
 fault_asked page access true call is = let same : Touch page access ≡ call = cc in ap asks_for same
 fault_asked page access false call is = absurd (cc)
 
-pub call_asked : (config : Config) (space : AddressSpace) (op : Op) (call : Call) → AsksItself op → call_of config space op ≡ Some call
+pub call_asked : (config : Config) (space : AddressSpace) (op : Op) (call : Call) → AsksItself op → call_made config space op ≡ Some call
     → op ≡ asks_for call
-unfolding call_of
+unfolding call_made
 call_asked config space (ops.Call made) call itself is =
     let same : made ≡ call = cc in sym itself ∙ ap asks_for same
 call_asked config space (ops.Fault page access) call itself is = fault_asked page access (grows config space.areas page.0 access) call is
@@ -45,25 +45,25 @@ call_asked config space ops.Maps call itself is = absurd (cc)
 call_asked config space (ops.Fork child) call itself is = absurd (cc)
 
 -- the line of a call makes it
-pub line_call : (config : Config) (space : AddressSpace) (call : Call) → call_of config space (ops.Call call) ≡ Some call
-unfolding call_of
+pub line_call : (config : Config) (space : AddressSpace) (call : Call) → call_made config space (ops.Call call) ≡ Some call
+unfolding call_made
 line_call config space call = refl
 
 -- the list makes none
-pub list_call : (config : Config) (space : AddressSpace) → call_of config space ops.Maps ≡ None
-unfolding call_of
+pub list_call : (config : Config) (space : AddressSpace) → call_made config space ops.Maps ≡ None
+unfolding call_made
 list_call config space = refl
 
 -- a fault that does not grow makes none
 pub still_call : (config : Config) (space : AddressSpace) (page : Page) (access : Access) → grows config space.areas page.0 access ≡ false
-    → call_of config space (ops.Fault page access) ≡ None
-unfolding call_of
+    → call_made config space (ops.Fault page access) ≡ None
+unfolding call_made
 still_call config space page access still = cond-false (grows config space.areas page.0 access) (Some (Touch page access)) None still
 
 -- and one that makes none does not grow
-pub call_still : (config : Config) (space : AddressSpace) (page : Page) (access : Access) → call_of config space (ops.Fault page access) ≡ None
+pub call_still : (config : Config) (space : AddressSpace) (page : Page) (access : Access) → call_made config space (ops.Fault page access) ≡ None
     → grows config space.areas page.0 access ≡ false
-unfolding call_of
+unfolding call_made
 call_still config space page access none = elim (cases_Bool (grows config space.areas page.0 access)) [
   | inl grow ↦
       let some : Some (Touch page access) ≡ None = sym (cond-true (grows config space.areas page.0 access) (Some (Touch page access)) None grow)
@@ -73,7 +73,7 @@ call_still config space page access none = elim (cases_Bool (grows config space.
 
 -- a fault that is a right read makes none
 pub fault_call : (config : Config) (journal : List Entry) (version : ℕ) (page : Page) (access : Access) (found : Verdict)
-    → IsReadAfter config journal (reads.Fault version page access found) → call_of config (after config journal) (ops.Fault page access) ≡ None
+    → IsReadAfter config journal (reads.Fault version page access found) → call_made config (after config journal) (ops.Fault page access) ≡ None
 fault_call config journal version page access found right = still_call config (after config journal) page access right.0
 
 -- what asks for a call makes no child
@@ -88,15 +88,15 @@ asked_reads (Brk addr) = refl
 asked_reads (Mseal addr len flags) = refl
 
 -- an operation that makes a child does what a read of the list does
-reads_call : (config : Config) (space : AddressSpace) (op : Op) → call_of config space (read_as op) ≡ call_of config space op
-unfolding call_of
+reads_call : (config : Config) (space : AddressSpace) (op : Op) → call_made config space (read_as op) ≡ call_made config space op
+unfolding call_made
 reads_call config space (ops.Call call) = refl
 reads_call config space (ops.Fault page access) = refl
 reads_call config space ops.Maps = refl
 reads_call config space (ops.Fork child) = refl
 
 pub reads_answer : (config : Config) (space : AddressSpace) (op : Op) → answer_of config space (read_as op) ≡ answer_of config space op
-reads_answer config space op = ap (answer_by config space (read_as op)) (reads_call config space op) ∙ same_read op (call_of config space op)
+reads_answer config space op = ap (answer_by config space (read_as op)) (reads_call config space op) ∙ same_read op (call_made config space op)
   where
     same_read : (op : Op) (made : Option Call) → answer_by config space (read_as op) made ≡ answer_by config space op made
     same_read op (Some call) = refl
@@ -115,9 +115,9 @@ reads_version config space version op = ap (version_by version) (reads_call conf
 -- A content is the answer of an address space: what it was asked to do makes its call there, and it has the step's reply; or makes none, and
 -- it is the verdict or the list.
 abbrev pub IsAnswer : Config → List Entry → Content → Type 0
-IsAnswer config journal (contents.Called call reply) = (call_of config (after config journal) (asks_for call) ≡ Some call)
+IsAnswer config journal (contents.Called call reply) = (call_made config (after config journal) (asks_for call) ≡ Some call)
     × (reply ≡ (step config (after config journal) call).reply)
-IsAnswer config journal (contents.Fault page access found) = (call_of config (after config journal) (ops.Fault page access) ≡ None)
+IsAnswer config journal (contents.Fault page access found) = (call_made config (after config journal) (ops.Fault page access) ≡ None)
     × (found ≡ verdict config (after config journal).areas page.0 access)
 IsAnswer config journal (contents.List areas) = areas ≡ (after config journal).areas
 
@@ -159,8 +159,8 @@ values_ask lines all = All-weaker IsLineValue (λ (line : TraceLine). AsksItself
 touched : (config : Config) (space : AddressSpace) (page : Page) (access : Access) (reply : Reply) (caller : ℕ)
     → reply ≡ (step config space (Touch page access)).reply
     → HasGrown (record { caller = caller; call = Touch page access; reply = reply })
-    → call_of config space (ops.Fault page access) ≡ Some (Touch page access)
-unfolding call_of touch
+    → call_made config space (ops.Fault page access) ≡ Some (Touch page access)
+unfolding call_made touch
 touched config space page access reply caller is grew = elim (cases_Bool (grows config space.areas page.0 access)) [
   | inl grow ↦ cond-true (grows config space.areas page.0 access) (Some (Touch page access)) None grow
   | inr still ↦
@@ -171,7 +171,7 @@ touched config space page access reply caller is grew = elim (cases_Bool (grows 
 ]
 
 pub entry_made : (config : Config) (space : AddressSpace) (caller : ℕ) (call : Call) (reply : Reply) → reply ≡ (step config space call).reply
-    → HasGrown (record { caller = caller; call = call; reply = reply }) → call_of config space (asks_for call) ≡ Some call
+    → HasGrown (record { caller = caller; call = call; reply = reply }) → call_made config space (asks_for call) ≡ Some call
 unfolding asks_for
 entry_made config space caller (Mmap args) reply is grew = line_call config space (Mmap args)
 entry_made config space caller (Munmap addr len) reply is grew = line_call config space (Munmap addr len)

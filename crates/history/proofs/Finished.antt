@@ -18,7 +18,7 @@ use Rattle.area_rules.specs.Journals.{calls_by}
 use Rattle.history.specs.declared.items.Content.{Content}
 use Rattle.history.specs.declared.items.Content.TheVariants as contents
 use Rattle.history.specs.declared.items.Item.{Item}
-use Rattle.history.specs.Histories.{items_of, lines_of, read_as, op_of, is_call, journal_of, line_of, StandsAmong, IsLegalHistory, gather}
+use Rattle.history.specs.Histories.{items_of, lines_of, read_as, op_asked, is_call, journal_of, line_answered, StandsAmong, IsLegalHistory, gather}
 use Rattle.history.specs.Runs.{entry_items, logs_items, history_of, own_of, ops_of, asked, IsRun, place_key}
 use Rattle.history.proofs.Lists.{split_at, at_place, slice_get_found}
 use Rattle.history.proofs.Calls.{answer_made, answer_right}
@@ -90,16 +90,16 @@ next_at items place item found =
 -- an item answers the next line of its caller, where each caller did what its lines ask for
 next_line : (lines : List TraceLine) (items : List Item) → ((caller : ℕ) → ops_of (items_of items caller) ≡ asked (lines_of lines caller))
     → (place : ℕ) (item : Item) → slice_get items place ≡ Some item
-    → IsSomeAnd (line_of lines (take place items) item) (λ line. read_as line.op ≡ op_of item.content)
-unfolding line_of ops_of
+    → IsSomeAnd (line_answered lines (take place items) item) (λ line. read_as line.op ≡ op_asked item.content)
+unfolding line_answered ops_of
 next_line lines items same place item found =
     let at : ℕ = length (items_of (take place items) item.caller) in
     let own : List TraceLine = lines_of lines item.caller in
-    let op : option_map (λ (line : TraceLine). read_as line.op) (slice_get own at) ≡ Some (op_of item.content) =
+    let op : option_map (λ (line : TraceLine). read_as line.op) (slice_get own at) ≡ Some (op_asked item.content) =
     sym (slice_get-map (λ (line : TraceLine). read_as line.op) own at) ∙ ap (λ (l : List Op). slice_get l at) (sym (same item.caller))
-    ∙ slice_get-map (λ (x : Item). op_of x.content) (items_of items item.caller) at
-    ∙ ap (λ (o : Option Item). option_map (λ (x : Item). op_of x.content) o) (next_at items place item found) in
-    asks (slice_get own at) (op_of item.content) op
+    ∙ slice_get-map (λ (x : Item). op_asked x.content) (items_of items item.caller) at
+    ∙ ap (λ (o : Option Item). option_map (λ (x : Item). op_asked x.content) o) (next_at items place item found) in
+    asks (slice_get own at) (op_asked item.content) op
   where
     asks : (line : Option TraceLine) (op : Op) → option_map (λ (line : TraceLine). read_as line.op) line ≡ Some op → IsSomeAnd line (λ line. read_as line.op ≡ op)
     asks None op is = absurd (cc)
@@ -176,7 +176,7 @@ order_at config start journal logs run (suc place) item found =
 as_many : (items : List Item) (lines : List TraceLine) → ops_of items ≡ asked lines → length items ≡ length lines
 unfolding ops_of
 as_many items lines same =
-    sym (length-map items (λ (x : Item). op_of x.content)) ∙ ap (λ (l : List Op). length l) same ∙ length-map lines (λ (line : TraceLine). read_as line.op)
+    sym (length-map items (λ (x : Item). op_asked x.content)) ∙ ap (λ (l : List Op). length l) same ∙ length-map lines (λ (line : TraceLine). read_as line.op)
 
 -- a caller has a log where it has a line
 has_log : (config : Config) (start : List Entry) (lines : List TraceLine) (callers : ℕ) (journal : List Entry) (logs : List (List Seen))
@@ -195,13 +195,13 @@ did_call : (items : List Item) (own : List TraceLine) (place : ℕ) (item : Item
     → slice_get items place ≡ Some item → slice_get own place ≡ Some line → is_call_op line.op ≡ true → is_call item.content ≡ true
 unfolding ops_of
 did_call items own place item line same here there call =
-    let op : Some (op_of item.content) ≡ Some (read_as line.op) =
-    ap (option_map (λ (x : Item). op_of x.content)) (sym here) ∙ sym (slice_get-map (λ (x : Item). op_of x.content) items place)
+    let op : Some (op_asked item.content) ≡ Some (read_as line.op) =
+    ap (option_map (λ (x : Item). op_asked x.content)) (sym here) ∙ sym (slice_get-map (λ (x : Item). op_asked x.content) items place)
     ∙ ap (λ (l : List Op). slice_get l place) same ∙ slice_get-map (λ (l : TraceLine). read_as l.op) own place
     ∙ ap (option_map (λ (l : TraceLine). read_as l.op)) there in
-    of_op item.content line.op (same_Some (op_of item.content) (read_as line.op) op) call
+    of_op item.content line.op (same_Some (op_asked item.content) (read_as line.op) op) call
   where
-    of_op : (content : Content) (op : Op) → op_of content ≡ read_as op → is_call_op op ≡ true → is_call content ≡ true
+    of_op : (content : Content) (op : Op) → op_asked content ≡ read_as op → is_call_op op ≡ true → is_call content ≡ true
     of_op (contents.Called call reply) op same asks = refl
     of_op (contents.Fault page access found) (ops.Call call) same asks = absurd (cc)
     of_op (contents.Fault page access found) (ops.Fault other kind) same asks = absurd (false≢true asks)
@@ -216,9 +216,9 @@ did_call items own place item line same here there call =
 told_at : (config : Config) (start : List Entry) (lines : List TraceLine) (callers : ℕ) (journal : List Entry) (logs : List (List Seen))
     → IsRun config start lines callers journal logs → callers ≤ 2 ^ 32 → AreNumbered lines → AreNamesRight lines
     → (place : ℕ) (item : Item) → slice_get (history_of journal logs) place ≡ Some item
-    → IfSome (line_of lines (take place (history_of journal logs)) item)
+    → IfSome (line_answered lines (take place (history_of journal logs)) item)
     (λ line. IfSome line.after (StandsAmong lines (take place (history_of journal logs))))
-unfolding line_of
+unfolding line_answered
 told_at config start lines callers journal logs run few numbered names place item found =
     by_line (slice_get (lines_of lines item.caller) next) refl
   where

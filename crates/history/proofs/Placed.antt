@@ -12,7 +12,7 @@ use Rattle.mm_types.proofs.Sorting.{Rises, Rises-sort_by}
 use Rattle.history.specs.declared.items.Content.{Content}
 use Rattle.history.specs.declared.items.Content.TheVariants as contents
 use Rattle.history.specs.declared.items.Item.{Item}
-use Rattle.history.specs.Histories.{asks_for, is_call, call_of, entry_of, journal_of}
+use Rattle.history.specs.Histories.{asks_for, is_call, call_made, entry_of, journal_of}
 use Rattle.history.specs.Runs.{entry_items, read_item, logs_items, history_of, place_key, AreMade, IsLegalAfter, IsReadRightAfter}
 use Rattle.history.proofs.Lists.{split_at, at_place}
 use Rattle.history.proofs.Sorts.{Small, gather_is_sort}
@@ -116,7 +116,7 @@ call_at config start journal before item rest legal made entries whole call =
     let so_far : take (length front) journal ≡ journal_of before = ap (λ (n : ℕ). take n journal) (sym count)
     ∙ sym (journal_before journal before (item ∷ rest) entries) in
     let right : IsAnswer config (start ++ journal_of before) (contents.Called at.0.call at.0.reply) = (
-      ap (λ (j : List Entry). call_of config (after config (start ++ j)) (asks_for at.0.call)) (sym so_far)
+      ap (λ (j : List Entry). call_made config (after config (start ++ j)) (asks_for at.0.call)) (sym so_far)
           ∙ made (length front) at.0 at.1,
       reply ∙ ap (λ (j : List Entry). (step config (after config (start ++ j)) at.0.call).reply) so_far,
     ) in

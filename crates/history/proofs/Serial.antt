@@ -19,7 +19,7 @@ use Rattle.trace_reader.specs.declared.trace.TraceLine.{TraceLine}
 use Rattle.area_rules.specs.Tables.{AddressSpace}
 use Rattle.area_rules.specs.Verdicts.{verdict}
 use Rattle.area_rules.specs.Steps.{step, opening, after}
-use Rattle.history.specs.Histories.{caller_of, lines_of, items_of, asks_for, AsksItself, AskThemselves, read_as, op_of, call_of, makes_call, is_call, entry_of, journal_of, line_of, StandsAmong, CanStand, IsRight, IsLegalHistory, read_of, answer_by, space_by, version_by, answer_of, space_after, version_after, items_from, space_after_all, answered_by}
+use Rattle.history.specs.Histories.{caller_of, lines_of, items_of, asks_for, AsksItself, AskThemselves, read_as, op_asked, call_made, makes_call, is_call, entry_of, journal_of, line_answered, StandsAmong, CanStand, IsRight, IsLegalHistory, read_of, answer_by, space_by, version_by, answer_of, space_after, version_after, items_from, space_after_all, answered_by}
 use Rattle.history.proofs.Calls.{call_asked, line_call, list_call, asked_reads, IsAnswer, answer_made, answer_right}
 
 -- the item of a line
@@ -34,17 +34,17 @@ read_answer config space ops.Maps = refl
 read_answer config space (ops.Fork child) = refl
 
 pub call_answer : (config : Config) (space : AddressSpace) (op : Op) → is_call (answer_of config space op) ≡ makes_call config space op
-call_answer config space op = by_call (call_of config space op)
+call_answer config space op = by_call (call_made config space op)
   where
     by_call : (made : Option Call) → is_call (answer_by config space op made) ≡ is_some made
     by_call (Some call) = refl
     by_call None = read_answer config space op
 
-asked : (config : Config) (space : AddressSpace) (op : Op) → AsksItself op → read_as op ≡ op_of (answer_of config space op)
-asked config space op itself = by_call op (call_of config space op) itself refl
+asked : (config : Config) (space : AddressSpace) (op : Op) → AsksItself op → read_as op ≡ op_asked (answer_of config space op)
+asked config space op itself = by_call op (call_made config space op) itself refl
   where
-    by_call : (op : Op) (made : Option Call) → AsksItself op → call_of config space op ≡ made
-        → read_as op ≡ op_of (answer_by config space op made)
+    by_call : (op : Op) (made : Option Call) → AsksItself op → call_made config space op ≡ made
+        → read_as op ≡ op_asked (answer_by config space op made)
     by_call op (Some call) itself is = ap read_as (call_asked config space op call itself is) ∙ asked_reads call
     by_call (ops.Call call) None itself is = let makes : Some call ≡ None = sym (line_call config space call) ∙ is in absurd (cc)
     by_call (ops.Fault page access) None itself is = refl
@@ -53,7 +53,7 @@ asked config space op itself = by_call op (call_of config space op) itself refl
 
 pub next_version : (config : Config) (space : AddressSpace) (version : ℕ) (op : Op)
     → version_after config space version op ≡ version + (if is_call (answer_of config space op) then 1 else 0)
-next_version config space version op = by_call (call_of config space op)
+next_version config space version op = by_call (call_made config space op)
   where
     by_call : (made : Option Call) → version_by version made ≡ version + (if is_call (answer_by config space op made) then 1 else 0)
     by_call (Some call) = refl
@@ -94,8 +94,8 @@ HasLines trace lines = (caller : ℕ) → lines_of trace caller ≡ filter (λ l
 
 -- the line that an item answers, where the lines before it are answered
 pub answers_line : (trace : List TraceLine) (before : List Item) (front : List TraceLine) (line : TraceLine) (rest : List TraceLine) (item : Item)
-    → HasLines trace (front ++ line ∷ rest) → Counts trace before front → item.caller ≡ caller_of trace line.thread → line_of trace before item ≡ Some line
-unfolding line_of
+    → HasLines trace (front ++ line ∷ rest) → Counts trace before front → item.caller ≡ caller_of trace line.thread → line_answered trace before item ≡ Some line
+unfolding line_answered
 answers_line trace before front line rest item whole same by =
     let q : TraceLine → Bool = λ l. nat_eq (caller_of trace l.thread) item.caller in
     let here : q line ≡ true = ap (λ (n : ℕ). nat_eq n item.caller) (sym by) ∙ nat_eq_itself item.caller in
@@ -120,7 +120,7 @@ pub stands_more : (config : Config) (before : List Item) (space : AddressSpace) 
     → Stands config (before ++ record { caller = caller; version = now; content = answer_of config space op } ∷ []) (space_after config space op)
     (version_after config space version op)
 unfolding after
-stands_more config before space version caller now op stands = by_call (call_of config space op)
+stands_more config before space version caller now op stands = by_call (call_made config space op)
   where
     at_read : (content : Content) → is_call content ≡ false
         → Stands config (before ++ record { caller = caller; version = now; content = content } ∷ []) space version
@@ -151,18 +151,18 @@ stands_more config before space version caller now op stands = by_call (call_of 
 -- the answer of a line is right where the journal leads to its address space
 right_answer : (config : Config) (journal : List Entry) (space : AddressSpace) (op : Op) → AsksItself op → after config journal ≡ space
     → IsAnswer config journal (answer_of config space op)
-right_answer config journal space op itself here = by_call op (call_of config space op) itself refl
+right_answer config journal space op itself here = by_call op (call_made config space op) itself refl
   where
-    by_call : (op : Op) (made : Option Call) → AsksItself op → call_of config space op ≡ made
+    by_call : (op : Op) (made : Option Call) → AsksItself op → call_made config space op ≡ made
         → IsAnswer config journal (answer_by config space op made)
     by_call op (Some call) itself is = (
-      ap (λ (s : AddressSpace). call_of config s (asks_for call)) here
-          ∙ ap (call_of config space) (sym (call_asked config space op call itself is)) ∙ is,
+      ap (λ (s : AddressSpace). call_made config s (asks_for call)) here
+          ∙ ap (call_made config space) (sym (call_asked config space op call itself is)) ∙ is,
       ap (λ (s : AddressSpace). (step config s call).reply) (sym here),
     )
     by_call (ops.Call call) None itself is = ap (λ (s : AddressSpace). s.areas) (sym here)
     by_call (ops.Fault page access) None itself is = (
-      ap (λ (s : AddressSpace). call_of config s (ops.Fault page access)) here ∙ is,
+      ap (λ (s : AddressSpace). call_made config s (ops.Fault page access)) here ∙ is,
       ap (λ (s : AddressSpace). verdict config s.areas page.0 access) (sym here),
     )
     by_call ops.Maps None itself is = ap (λ (s : AddressSpace). s.areas) (sym here)
@@ -170,13 +170,13 @@ right_answer config journal space op itself here = by_call op (call_of config sp
 
 -- a content that is right after a journal is the answer to what it was asked
 pub right_is_answer : (config : Config) (journal : List Entry) (space : AddressSpace) (content : Content) → after config journal ≡ space
-    → IsAnswer config journal content → content ≡ answer_of config space (op_of content)
+    → IsAnswer config journal content → content ≡ answer_of config space (op_asked content)
 right_is_answer config journal space (contents.Called call reply) here right =
     ap (contents.Called call) (right.1 ∙ ap (λ (s : AddressSpace). (step config s call).reply) here)
-    ∙ ap (answer_by config space (asks_for call)) (sym right.0 ∙ ap (λ (s : AddressSpace). call_of config s (asks_for call)) here)
+    ∙ ap (answer_by config space (asks_for call)) (sym right.0 ∙ ap (λ (s : AddressSpace). call_made config s (asks_for call)) here)
 right_is_answer config journal space (contents.Fault page access found) here right =
     ap (contents.Fault page access) (right.1 ∙ ap (λ (s : AddressSpace). verdict config s.areas page.0 access) here)
-    ∙ ap (answer_by config space (ops.Fault page access)) (sym right.0 ∙ ap (λ (s : AddressSpace). call_of config s (ops.Fault page access)) here)
+    ∙ ap (answer_by config space (ops.Fault page access)) (sym right.0 ∙ ap (λ (s : AddressSpace). call_made config s (ops.Fault page access)) here)
 right_is_answer config journal space (contents.List areas) here right =
     ap contents.List (right ∙ ap (λ (s : AddressSpace). s.areas) here)
     ∙ ap (answer_by config space ops.Maps) (sym (list_call config space))
@@ -197,8 +197,8 @@ items_of_pairs config trace space version (line ∷ lines) =
 -- after others, an item of its version answers this line, and is right
 pub record Answers (config : Config) (trace : List TraceLine) (before : List Item) (pair : TraceLine × Item) : Type 0 where
   pub version : pair.1.version ≡ length (journal_of before) + (if is_call pair.1.content then 1 else 0)
-  pub line : line_of trace before pair.1 ≡ Some pair.0
-  pub asks : read_as pair.0.op ≡ op_of pair.1.content
+  pub line : line_answered trace before pair.1 ≡ Some pair.0
+  pub asks : read_as pair.0.op ≡ op_asked pair.1.content
   pub right : IsAnswer config (journal_of before) pair.1.content
 
 -- each item answers its line, after those before it
@@ -299,7 +299,7 @@ can_stand : (config : Config) (trace : List TraceLine) (before : List Item) (pai
 can_stand config trace before pair answers order told = record {
   version = answers.version;
   order = order;
-  next = subst (λ (o : Option TraceLine). IsSomeAnd o (λ l. read_as l.op ≡ op_of pair.1.content)) (sym answers.line) answers.asks;
+  next = subst (λ (o : Option TraceLine). IsSomeAnd o (λ l. read_as l.op ≡ op_asked pair.1.content)) (sym answers.line) answers.asks;
   made = answer_made config (journal_of before) pair.1.content answers.right;
   named = subst (λ (o : Option TraceLine). IfSome o (λ l. IfSome l.after (StandsAmong trace before))) (sym answers.line) told;
 }

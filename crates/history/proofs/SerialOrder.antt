@@ -17,7 +17,7 @@ use Rattle.trace_reader.specs.Values.{is_call_op, AreNumbered, NamesACall, AreNa
 use Rattle.area_rules.specs.Tables.{AddressSpace}
 use Rattle.area_rules.specs.Steps.{opening, after}
 use Rattle.mm_types.specs.Sorts.{insert_in_order, sort_by}
-use Rattle.history.specs.Histories.{occurs, caller_of, lines_of, AsksItself, AskThemselves, call_of, makes_call, is_call, journal_of, line_of, StandsAmong, IsLegalHistory, goes_first, gather, space_by, version_by, space_after, version_after, items_from, serial_history, space_after_all, sort_by_caller, leading_reads, after_reads, answered_by, answered}
+use Rattle.history.specs.Histories.{occurs, caller_of, lines_of, AsksItself, AskThemselves, call_made, makes_call, is_call, journal_of, line_answered, StandsAmong, IsLegalHistory, goes_first, gather, space_by, version_by, space_after, version_after, items_from, serial_history, space_after_all, sort_by_caller, leading_reads, after_reads, answered_by, answered}
 use Rattle.history.proofs.Lists.{split_at, at_place, get_past}
 use Rattle.history.proofs.Calls.{line_call}
 use Rattle.history.proofs.Numbers.{IsNamed, named_line, passed, own_place, names_call}
@@ -41,7 +41,7 @@ no_reads config space = All-nil (IsRead config space)
 
 -- a read changes neither the address space nor the version
 pub read_space : (config : Config) (space : AddressSpace) (op : Op) → makes_call config space op ≡ false → space_after config space op ≡ space
-read_space config space op read = by_call (call_of config space op) read
+read_space config space op read = by_call (call_made config space op) read
   where
     by_call : (made : Option Call) → is_some made ≡ false → space_by config space made ≡ space
     by_call (Some call) read = absurd (true≢false read)
@@ -49,7 +49,7 @@ read_space config space op read = by_call (call_of config space op) read
 
 read_version : (config : Config) (space : AddressSpace) (version : ℕ) (op : Op) → makes_call config space op ≡ false
     → version_after config space version op ≡ version
-read_version config space version op read = by_call (call_of config space op) read
+read_version config space version op read = by_call (call_made config space op) read
   where
     by_call : (made : Option Call) → is_some made ≡ false → version_by version made ≡ version
     by_call (Some call) read = absurd (true≢false read)
@@ -57,14 +57,14 @@ read_version config space version op read = by_call (call_of config space op) re
 
 call_version : (config : Config) (space : AddressSpace) (version : ℕ) (op : Op) → makes_call config space op ≡ true
     → version_after config space version op ≡ version + 1
-call_version config space version op makes = by_call (call_of config space op) makes
+call_version config space version op makes = by_call (call_made config space op) makes
   where
     by_call : (made : Option Call) → is_some made ≡ true → version_by version made ≡ version + 1
     by_call (Some call) makes = refl
     by_call None makes = absurd (false≢true makes)
 
 version_rises : (config : Config) (space : AddressSpace) (version : ℕ) (op : Op) → version ≤ version_after config space version op
-version_rises config space version op = by_call (call_of config space op)
+version_rises config space version op = by_call (call_made config space op)
   where
     by_call : (made : Option Call) → version ≤ version_by version made
     by_call (Some call) = omega arith
@@ -592,9 +592,9 @@ serial-answered config lines =
 
 pub answered_line : (config : Config) (lines : List TraceLine) (place : ℕ) (pair : TraceLine × Item) → AskThemselves lines
     → slice_get (answered config lines (opening config) 0 [] lines) place ≡ Some pair
-    → line_of lines (take place (serial_history config lines)) pair.1 ≡ Some pair.0
+    → line_answered lines (take place (serial_history config lines)) pair.1 ≡ Some pair.0
 answered_line config lines place pair all found =
-    subst (λ (items : List Item). line_of lines (take place items) pair.1 ≡ Some pair.0) (sym (serial_lines config lines))
+    subst (λ (items : List Item). line_answered lines (take place items) pair.1 ≡ Some pair.0) (sym (serial_lines config lines))
     (answers_place config lines (history_lines config lines (opening config) [] lines) place pair (all_ask config lines all) (has_lines config (opening config) lines)
     (ap (λ (l : List (TraceLine × Item)). slice_get l place) (sym (serial_pairs config lines)) ∙ found)).line
 

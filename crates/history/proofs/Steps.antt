@@ -9,7 +9,7 @@ use Rattle.mm_types.specs.declared.call.Seen.TheVariants as reads
 use Rattle.area_rules.specs.Journals.{calls_by, version_of}
 use Rattle.history.specs.declared.items.Content.TheVariants as contents
 use Rattle.history.specs.declared.items.Item.{Item}
-use Rattle.history.specs.Histories.{items_of, asks_for, op_of, is_call, gather}
+use Rattle.history.specs.Histories.{items_of, asks_for, op_asked, is_call, gather}
 use Rattle.history.specs.Runs.{entry_items, content_of, read_item, log_items, own_of, ops_of}
 use Rattle.history.proofs.Gathers.{Before, After, gather_last, higher_after, call_before, read_before}
 
@@ -160,9 +160,9 @@ own_call caller old rest log entry none within own =
     ∙ ap (λ (l : List Item). gather l) (append_assoc entries (x ∷ []) logged)
     ∙ gather_last x entries logged calls later
 
-pub ops_more : (xs : List Item) (x : Item) → ops_of (xs ++ x ∷ []) ≡ ops_of xs ++ op_of x.content ∷ []
+pub ops_more : (xs : List Item) (x : Item) → ops_of (xs ++ x ∷ []) ≡ ops_of xs ++ op_asked x.content ∷ []
 unfolding ops_of
-ops_more xs x = map_push (λ (item : Item). op_of item.content) xs x
+ops_more xs x = map_push (λ (item : Item). op_asked item.content) xs x
 
 -- of operations
 pub ops_call : (caller : ℕ) (old rest : List Entry) (log : List Seen) (entry : Entry) → calls_by caller rest ≡ []
@@ -173,7 +173,7 @@ ops_call caller old rest log entry none within own =
 
 pub ops_read : (caller : ℕ) (old rest : List Entry) (log : List Seen) (read : Seen) → calls_by caller rest ≡ []
     → All (λ read. version_of read ≤ length old) log → version_of read ≡ length (old ++ rest)
-    → ops_of (own_of caller (old ++ rest) (log ++ read ∷ [])) ≡ ops_of (own_of caller old log) ++ op_of (content_of read) ∷ []
+    → ops_of (own_of caller (old ++ rest) (log ++ read ∷ [])) ≡ ops_of (own_of caller old log) ++ op_asked (content_of read) ∷ []
 ops_read caller old rest log read none within now =
     ap ops_of (own_read caller old rest log read none within now) ∙ ops_more (own_of caller old log) (read_item caller read)
 

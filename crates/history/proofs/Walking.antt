@@ -26,10 +26,10 @@ use Rattle.history.specs.declared.checking.Walk.{Walk}
 use Rattle.history.specs.declared.items.Content.{Content}
 use Rattle.history.specs.declared.items.Content.TheVariants as contents
 use Rattle.history.specs.declared.items.Item.{Item}
-use Rattle.history.specs.Histories.{items_of, lines_of, line_of, journal_of, is_call, read_as, asks_for, op_of, call_of, answer_by, space_by, answer_of, space_after, StandsAmong, CanStand, IsMade, IsLegalHistory}
-use Rattle.history.specs.Checking.{answer_in, answer_to, next_line, expected_of, IsGood, IsRefused}
+use Rattle.history.specs.Histories.{items_of, lines_of, line_answered, journal_of, is_call, read_as, asks_for, op_asked, call_made, answer_by, space_by, answer_of, space_after, StandsAmong, CanStand, IsMade, IsLegalHistory}
+use Rattle.history.specs.Checking.{answer_in, answer_to, next_line, expected_of, IsGood, IsHistoryRefused}
 use Rattle.history.specs.Coming.{lowest_after, IsProgress, HasNoneLeft}
-use Rattle.history.specs.Internal.Walks.{space_after_line, IsNext, IsTold, IsLowestLeft, HasBegun, IsWalked}
+use Rattle.history.specs.Internal.Walks.{space_after_line, IsNext, IsTold, IsLowestLeft, HasBegun, IsHistoryWalked}
 use Rattle.history.proofs.Advances.{journal_within, left_within, left_fewer, lines_within, progress_more, progress_within}
 use Rattle.history.proofs.Calls.{list_call, reads_answer, reads_space, IsAnswer, answer_right, is_answer}
 use Rattle.history.proofs.Placed.{journal_append}
@@ -38,7 +38,7 @@ use Rattle.history.proofs.SerialOrder.{read_space}
 
 step_on : (config : Config) (journal : List Entry) (caller version : ℕ) (content : Content) → IsAnswer config journal content
     → after config (journal ++ journal_of (record { caller = caller; version = version; content = content } ∷ []))
-    ≡ space_after config (after config journal) (op_of content)
+    ≡ space_after config (after config journal) (op_asked content)
 unfolding journal_of
 step_on config journal caller version (contents.Called call reply) right =
     after-push config journal (record { caller = caller; call = call; reply = reply }) ∙ ap (space_by config (after config journal)) (sym right.0)
@@ -49,7 +49,7 @@ step_on config journal caller version (contents.List areas) right =
 
 -- the address space with one such item more
 space_more : (config : Config) (start : List Entry) (before : List Item) (item : Item) → IsAnswer config (start ++ journal_of before) item.content
-    → after config (start ++ journal_of (before ++ item ∷ [])) ≡ space_after config (after config (start ++ journal_of before)) (op_of item.content)
+    → after config (start ++ journal_of (before ++ item ∷ [])) ≡ space_after config (after config (start ++ journal_of before)) (op_asked item.content)
 space_more config start before item right =
     ap (λ (j : List Entry). after config (start ++ j)) (journal_append before (item ∷ []))
     ∙ ap (after config) (sym (append_assoc start (journal_of before) (journal_of (item ∷ []))))
@@ -57,13 +57,13 @@ space_more config start before item right =
 
 -- a content is the answer where it has the answer to what it was asked
 right_from_answer : (config : Config) (journal : List Entry) (content : Content)
-    → answer_in (answer_of config (after config journal) (op_of content)) ≡ answer_in content → IsAnswer config journal content
+    → answer_in (answer_of config (after config journal) (op_asked content)) ≡ answer_in content → IsAnswer config journal content
 right_from_answer config journal (contents.Called call reply) same =
-    by_call (asks_for call) (call_of config (after config journal) (asks_for call)) refl same
+    by_call (asks_for call) (call_made config (after config journal) (asks_for call)) refl same
   where
-    by_call : (op : Op) (made : Option Call) → call_of config (after config journal) op ≡ made
+    by_call : (op : Op) (made : Option Call) → call_made config (after config journal) op ≡ made
         → answer_in (answer_by config (after config journal) op made) ≡ answers.Call call reply
-        → (call_of config (after config journal) op ≡ Some call) × (reply ≡ (step config (after config journal) call).reply)
+        → (call_made config (after config journal) op ≡ Some call) × (reply ≡ (step config (after config journal) call).reply)
     by_call op (Some other) is same =
         let one : other ≡ call = cc in
         let due : (step config (after config journal) other).reply ≡ reply = cc in
@@ -73,15 +73,15 @@ right_from_answer config journal (contents.Called call reply) same =
     by_call ops.Maps None is same = absurd (cc)
     by_call (ops.Fork child) None is same = absurd (cc)
 right_from_answer config journal (contents.Fault page access found) same =
-    by_call (call_of config (after config journal) (ops.Fault page access)) refl same
+    by_call (call_made config (after config journal) (ops.Fault page access)) refl same
   where
-    by_call : (made : Option Call) → call_of config (after config journal) (ops.Fault page access) ≡ made
+    by_call : (made : Option Call) → call_made config (after config journal) (ops.Fault page access) ≡ made
         → answer_in (answer_by config (after config journal) (ops.Fault page access) made) ≡ answers.Fault found
-        → (call_of config (after config journal) (ops.Fault page access) ≡ None)
+        → (call_made config (after config journal) (ops.Fault page access) ≡ None)
         × (found ≡ verdict config (after config journal).areas page.0 access)
     by_call (Some call) is same = absurd (cc)
     by_call None is same = (is, cc)
-right_from_answer config journal (contents.List areas) same = by_call (call_of config (after config journal) ops.Maps) same
+right_from_answer config journal (contents.List areas) same = by_call (call_made config (after config journal) ops.Maps) same
   where
     by_call : (made : Option Call) → answer_in (answer_by config (after config journal) ops.Maps made) ≡ answers.List areas
         → areas ≡ (after config journal).areas
@@ -89,7 +89,7 @@ right_from_answer config journal (contents.List areas) same = by_call (call_of c
     by_call None same = cc
 
 answer_from_right : (config : Config) (journal : List Entry) (content : Content) → IsAnswer config journal content
-    → answer_in (answer_of config (after config journal) (op_of content)) ≡ answer_in content
+    → answer_in (answer_of config (after config journal) (op_asked content)) ≡ answer_in content
 answer_from_right config journal content right = ap answer_in (sym (right_is_answer config journal (after config journal) content refl right))
 
 order_from_lowest : (prior : Option Item) (item : Item) → (is_call item.content ≡ false → lowest_after prior ≤ item.caller)
@@ -109,17 +109,17 @@ lowest_from_order (Some prior) item order here = elim (cases_Bool (is_call prior
 ]
 
 -- an item can stand where it is next, what it was asked to do makes it, and what its line names is answered
-pub stands_from_next : (case : Case) (place : ℕ) (walk : Walk) (item : Item) (line : Option TraceLine) → IsWalked case place walk
+pub stands_from_next : (case : Case) (place : ℕ) (walk : Walk) (item : Item) (line : Option TraceLine) → IsHistoryWalked case place walk
     → line ≡ next_line case.lines.now (take place case.items.now) item.caller → IsNext walk.progress line item
     → IsMade walk.space.config walk.space.space item.content → IsTold case.lines.now (take place case.items.now) line
     → CanStand case.config.now case.start.now case.lines.now (take place case.items.now) item
-unfolding line_of
+unfolding line_answered
 stands_from_next case place walk item line walked at next made told =
     let before : List Item = take place case.items.now in
     record {
       version = next.version ∙ ap (λ (n : ℕ). n + cond (is_call item.content) 1 0) walked.progress.version;
       order = order_from_lowest (last_or None before) item (λ read. omega (arith, walked.progress.lowest, next.order read));
-      next = subst (λ (o : Option TraceLine). IsSomeAnd o (λ line. read_as line.op ≡ op_of item.content)) at next.asked;
+      next = subst (λ (o : Option TraceLine). IsSomeAnd o (λ line. read_as line.op ≡ op_asked item.content)) at next.asked;
       made = subst (λ (s : AddressSpace). IsMade case.config.now s item.content) walked.space
           (subst (λ (c : Config). IsMade c walk.space.space item.content) walked.opened made);
       named = subst (λ (o : Option TraceLine). IfSome o (λ line. IfSome line.after (StandsAmong case.lines.now before))) at told;
@@ -131,17 +131,17 @@ pub record AllNext (case : Case) (place : ℕ) (walk : Walk) (item : Item) (line
   pub made : IsMade walk.space.config walk.space.space item.content
   pub told : IsTold case.lines.now (take place case.items.now) line
 
-pub next_from_stands : (case : Case) (place : ℕ) (walk : Walk) (item : Item) (line : Option TraceLine) → IsWalked case place walk
+pub next_from_stands : (case : Case) (place : ℕ) (walk : Walk) (item : Item) (line : Option TraceLine) → IsHistoryWalked case place walk
     → line ≡ next_line case.lines.now (take place case.items.now) item.caller
     → CanStand case.config.now case.start.now case.lines.now (take place case.items.now) item → AllNext case place walk item line
-unfolding line_of
+unfolding line_answered
 next_from_stands case place walk item line walked at stands =
     let before : List Item = take place case.items.now in
     record {
       next = record {
         version = stands.version ∙ ap (λ (n : ℕ). n + cond (is_call item.content) 1 0) (sym walked.progress.version);
         order = λ read. omega (arith, walked.progress.lowest, lowest_from_order (last_or None before) item stands.order read);
-        asked = subst (λ (o : Option TraceLine). IsSomeAnd o (λ line. read_as line.op ≡ op_of item.content)) (sym at) stands.next;
+        asked = subst (λ (o : Option TraceLine). IsSomeAnd o (λ line. read_as line.op ≡ op_asked item.content)) (sym at) stands.next;
       };
       made = subst (λ (c : Config). IsMade c walk.space.space item.content) (sym walked.opened)
           (subst (λ (s : AddressSpace). IsMade case.config.now s item.content) (sym walked.space) stands.made);
@@ -151,14 +151,14 @@ next_from_stands case place walk item line walked at stands =
 -- an item that can stand answers a line
 asks_line : (case : Case) (place : ℕ) (item : Item) (line : Option TraceLine) → line ≡ next_line case.lines.now (take place case.items.now) item.caller
     → CanStand case.config.now case.start.now case.lines.now (take place case.items.now) item
-    → IsSomeAnd line (λ line. read_as line.op ≡ op_of item.content)
-unfolding line_of
+    → IsSomeAnd line (λ line. read_as line.op ≡ op_asked item.content)
+unfolding line_answered
 asks_line case place item line at stands =
-    subst (λ (o : Option TraceLine). IsSomeAnd o (λ line. read_as line.op ≡ op_of item.content)) (sym at) stands.next
+    subst (λ (o : Option TraceLine). IsSomeAnd o (λ line. read_as line.op ≡ op_asked item.content)) (sym at) stands.next
 
 -- the answer to its line is that to what it was asked
 answer_asked : (config : Config) (space : AddressSpace) (content : Content) (line : Option TraceLine)
-    → IsSomeAnd line (λ line. read_as line.op ≡ op_of content) → answer_to config space line ≡ answer_in (answer_of config space (op_of content))
+    → IsSomeAnd line (λ line. read_as line.op ≡ op_asked content) → answer_to config space line ≡ answer_in (answer_of config space (op_asked content))
 answer_asked config space content None asked = absurd asked
 answer_asked config space content (Some line) asked =
     ap answer_in (sym (reads_answer config space line.op) ∙ ap (answer_of config space) asked)
@@ -166,7 +166,7 @@ answer_asked config space content (Some line) asked =
 -- before the first item
 pub walked_none : (case : Case) (walk : Walk) → IsProgress case.lines.now [] walk.progress → HasBegun case.config.now case.start.now walk.space
     → length case.config.now.files + length case.start.now + length case.lines.now < 2 ^ 32 - 1 → AreNumbered case.lines.now
-    → All (λ line. line.thread < MOST_THREADS) case.lines.now → IsWalked case 0 walk
+    → All (λ line. line.thread < MOST_THREADS) case.lines.now → IsHistoryWalked case 0 walk
 unfolding journal_of
 walked_none case walk progress begun room numbered threads = record {
   progress = progress;
@@ -180,7 +180,7 @@ walked_none case walk progress begun room numbered threads = record {
 }
 
 -- there is room for one object more, and for one version more
-pub walked_room : (case : Case) (place : ℕ) (walk : Walk) → IsWalked case place walk
+pub walked_room : (case : Case) (place : ℕ) (walk : Walk) → IsHistoryWalked case place walk
     → (walk.space.space.objects < 2 ^ 32 - 1) × (walk.progress.version < 2 ^ 32)
 walked_room case place walk walked =
     let before : List Item = take place case.items.now in
@@ -191,14 +191,14 @@ walked_room case place walk walked =
     )
 
 -- an item that can stand is of a caller that is counted, and whose count has room
-pub counts_room : (case : Case) (place : ℕ) (walk : Walk) (item : Item) (line : Option TraceLine) → IsWalked case place walk
+pub counts_room : (case : Case) (place : ℕ) (walk : Walk) (item : Item) (line : Option TraceLine) → IsHistoryWalked case place walk
     → line ≡ next_line case.lines.now (take place case.items.now) item.caller
     → CanStand case.config.now case.start.now case.lines.now (take place case.items.now) item
     → (item.caller < length walk.progress.answered) × (get_or walk.progress.answered item.caller 0 < 2 ^ 32)
 counts_room case place walk item line walked at stands = of_line line at (asks_line case place item line at stands)
   where
     of_line : (line : Option TraceLine) → line ≡ next_line case.lines.now (take place case.items.now) item.caller
-        → IsSomeAnd line (λ line. read_as line.op ≡ op_of item.content)
+        → IsSomeAnd line (λ line. read_as line.op ≡ op_asked item.content)
         → (item.caller < length walk.progress.answered) × (get_or walk.progress.answered item.caller 0 < 2 ^ 32)
     of_line None at asked = absurd asked
     of_line (Some line) at asked =
@@ -216,7 +216,7 @@ counts_room case place walk item line walked at stands = of_line line at (asks_l
         )
 
 -- the answer to the next line is what the walk made
-expected_here : (case : Case) (place caller : ℕ) (walk : Walk) (line : Option TraceLine) → IsWalked case place walk
+expected_here : (case : Case) (place caller : ℕ) (walk : Walk) (line : Option TraceLine) → IsHistoryWalked case place walk
     → line ≡ next_line case.lines.now (take place case.items.now) caller
     → answer_to walk.space.config walk.space.space line ≡ expected_of case.config.now case.start.now case.lines.now (take place case.items.now) caller
 expected_here case place caller walk line walked at =
@@ -224,25 +224,25 @@ expected_here case place caller walk line walked at =
     ∙ ap (answer_to case.config.now (after case.config.now (case.start.now ++ journal_of (take place case.items.now)))) at
 
 -- the answer to the line of an item that can stand, over the address space there
-answer_here : (case : Case) (place : ℕ) (walk : Walk) (item : Item) (line : Option TraceLine) → IsWalked case place walk
+answer_here : (case : Case) (place : ℕ) (walk : Walk) (item : Item) (line : Option TraceLine) → IsHistoryWalked case place walk
     → line ≡ next_line case.lines.now (take place case.items.now) item.caller
     → CanStand case.config.now case.start.now case.lines.now (take place case.items.now) item
     → answer_to walk.space.config walk.space.space line
-    ≡ answer_in (answer_of case.config.now (after case.config.now (case.start.now ++ journal_of (take place case.items.now))) (op_of item.content))
+    ≡ answer_in (answer_of case.config.now (after case.config.now (case.start.now ++ journal_of (take place case.items.now))) (op_asked item.content))
 answer_here case place walk item line walked at stands =
     ap (λ (c : Config). answer_to c walk.space.space line) walked.opened ∙ ap (λ (s : AddressSpace). answer_to case.config.now s line) walked.space
     ∙ answer_asked case.config.now (after case.config.now (case.start.now ++ journal_of (take place case.items.now))) item.content line
     (asks_line case place item line at stands)
 
 -- a right item that is no call leaves the address space as it is
-read_same : (config : Config) (space : AddressSpace) (content : Content) → content ≡ answer_of config space (op_of content)
-    → is_call content ≡ false → space_after config space (op_of content) ≡ space
+read_same : (config : Config) (space : AddressSpace) (content : Content) → content ≡ answer_of config space (op_asked content)
+    → is_call content ≡ false → space_after config space (op_asked content) ≡ space
 read_same config space content right read =
-    read_space config space (op_of content) (sym (call_answer config space (op_of content)) ∙ ap is_call (sym right) ∙ read)
+    read_space config space (op_asked content) (sym (call_answer config space (op_asked content)) ∙ ap is_call (sym right) ∙ read)
 
 -- a call numbers at most one object, and another item none
 objects_more : (config : Config) (content : Content) (old new : AddressSpace) (files version : ℕ) → old.objects ≤ files + version
-    → new.objects ≤ old.objects + 1 → content ≡ answer_of config old (op_of content) → new ≡ space_after config old (op_of content)
+    → new.objects ≤ old.objects + 1 → content ≡ answer_of config old (op_asked content) → new ≡ space_after config old (op_asked content)
     → new.objects ≤ files + (version + cond (is_call content) 1 0)
 objects_more config content old new files version few more right moved = elim (cases_Bool (is_call content)) [
   | inl call ↦ omega (arith, few, more, cond-true {A = ℕ} (is_call content) 1 0 call)
@@ -253,18 +253,18 @@ objects_more config content old new files version few more right moved = elim (c
 
 -- the address space after the line of an item is that after what it was asked
 space_asked : (config : Config) (space : AddressSpace) (content : Content) (line : Option TraceLine)
-    → IsSomeAnd line (λ line. read_as line.op ≡ op_of content) → space_after_line config space line ≡ space_after config space (op_of content)
+    → IsSomeAnd line (λ line. read_as line.op ≡ op_asked content) → space_after_line config space line ≡ space_after config space (op_asked content)
 space_asked config space content None asked = absurd asked
 space_asked config space content (Some line) asked = sym (reads_space config space line.op) ∙ ap (space_after config space) asked
 
-line_asked : (content : Content) (line : Option TraceLine) → IsSomeAnd line (λ line. read_as line.op ≡ op_of content)
+line_asked : (content : Content) (line : Option TraceLine) → IsSomeAnd line (λ line. read_as line.op ≡ op_asked content)
     → (found : TraceLine) × (line ≡ Some found)
 line_asked content None asked = absurd asked
 line_asked content (Some line) asked = (line, refl)
 
 -- after a good item
 pub walked_more : (case : Case) (place : ℕ) (old new : Walk) (item : Item) (line : Option TraceLine) (answer : Answer)
-    → IsWalked case place old → slice_get case.items.now place ≡ Some item → line ≡ next_line case.lines.now (take place case.items.now) item.caller
+    → IsHistoryWalked case place old → slice_get case.items.now place ≡ Some item → line ≡ next_line case.lines.now (take place case.items.now) item.caller
     → CanStand case.config.now case.start.now case.lines.now (take place case.items.now) item
     → answer ≡ answer_to old.space.config old.space.space line → answer ≡ answer_in item.content
     → new.space.space ≡ space_after_line old.space.config old.space.space line → new.space.config ≡ old.space.config
@@ -272,7 +272,7 @@ pub walked_more : (case : Case) (place : ℕ) (old new : Walk) (item : Item) (li
     → new.progress.answered ≡ set old.progress.answered item.caller (get_or old.progress.answered item.caller 0 + 1)
     → new.progress.lines ≡ old.progress.lines → (called : Bool) → called ≡ is_call item.content
     → new.progress.version ≡ old.progress.version + cond called 1 0 → new.progress.lowest ≡ cond called 0 item.caller
-    → IsWalked case (place + 1) new
+    → IsHistoryWalked case (place + 1) new
 walked_more case place old new item line answer walked found at stands made given stepped kept few pushed same called is counts reads =
     let config : Config = case.config.now in
     let start : List Entry = case.start.now in
@@ -280,12 +280,12 @@ walked_more case place old new item line answer walked found at stands made give
     let items : List Item = case.items.now in
     let before : List Item = take place items in
     let here : AddressSpace = after config (start ++ journal_of before) in
-    let asked : IsSomeAnd line (λ line. read_as line.op ≡ op_of item.content) = asks_line case place item line at stands in
+    let asked : IsSomeAnd line (λ line. read_as line.op ≡ op_asked item.content) = asks_line case place item line at stands in
     let its : (found : TraceLine) × (line ≡ Some found) = line_asked item.content line asked in
     let within : place < length items = slice_get_within items place item found in
     let more : take (place + 1) items ≡ before ++ item ∷ [] =
     take_more items place item within ∙ ap (λ (x : Item). before ++ x ∷ []) (get_or_from_slice_get items place item item found) in
-    let moved : new.space.space ≡ space_after config here (op_of item.content) =
+    let moved : new.space.space ≡ space_after config here (op_asked item.content) =
     stepped ∙ ap (λ (c : Config). space_after_line c old.space.space line) walked.opened
     ∙ ap (λ (s : AddressSpace). space_after_line config s line) walked.space ∙ space_asked config here item.content line asked in
     let right : IsAnswer config (start ++ journal_of before) item.content =
@@ -306,7 +306,7 @@ walked_more case place old new item line answer walked found at stands made give
       objects = subst (λ (n : ℕ). new.space.space.objects ≤ length config.files + length start + n) (sym counted)
           (objects_more config item.content old.space.space new.space.space (length config.files + length start) old.progress.version walked.objects few
           (right_is_answer config (start ++ journal_of before) old.space.space item.content (sym walked.space) right)
-          (moved ∙ ap (λ (s : AddressSpace). space_after config s (op_of item.content)) (sym walked.space)));
+          (moved ∙ ap (λ (s : AddressSpace). space_after config s (op_asked item.content)) (sym walked.space)));
       room = walked.room;
       numbered = walked.numbered;
       threads = walked.threads;
@@ -321,12 +321,12 @@ walked_more case place old new item line answer walked found at stands made give
 
 -- an item that can stand and is not right
 pub refused_wrong : (case : Case) (place : ℕ) (walk : Walk) (item : Item) (line : Option TraceLine) (answer : Answer) (bad : BadEntry)
-    → IsWalked case place walk → slice_get case.items.now place ≡ Some item
+    → IsHistoryWalked case place walk → slice_get case.items.now place ≡ Some item
     → line ≡ next_line case.lines.now (take place case.items.now) item.caller
     → CanStand case.config.now case.start.now case.lines.now (take place case.items.now) item
     → answer ≡ answer_to walk.space.config walk.space.space line → (answer ≡ answer_in item.content → ⊥)
     → bad.place ≡ place + 1 → bad.expected ≡ answer → bad.found ≡ answer_in item.content
-    → IsRefused case.config.now case.start.now case.lines.now case.items.now bad
+    → IsHistoryRefused case.config.now case.start.now case.lines.now case.items.now bad
 refused_wrong case place walk item line answer bad walked found at stands made never stood is said =
     let journal : List Entry = case.start.now ++ journal_of (take place case.items.now) in
     record {
@@ -346,7 +346,7 @@ refused_wrong case place walk item line answer bad walked found at stands made n
     }
 
 -- at the end, where no line is left
-pub ends_legal : (case : Case) (walk : Walk) → IsWalked case (length case.items.now) walk
+pub ends_legal : (case : Case) (walk : Walk) → IsHistoryWalked case (length case.items.now) walk
     → HasNoneLeft case.lines.now (take (length case.items.now) case.items.now)
     → IsLegalHistory case.config.now case.start.now case.lines.now case.items.now
 ends_legal case walk walked none =
@@ -359,11 +359,11 @@ ends_legal case walk walked none =
 
 -- and where one is
 pub ends_early : (case : Case) (walk : Walk) (caller : ℕ) (line : Option TraceLine) (answer : Answer) (bad : BadEntry)
-    → IsWalked case (length case.items.now) walk → IsLowestLeft case.lines.now (take (length case.items.now) case.items.now) caller
+    → IsHistoryWalked case (length case.items.now) walk → IsLowestLeft case.lines.now (take (length case.items.now) case.items.now) caller
     → line ≡ next_line case.lines.now (take (length case.items.now) case.items.now) caller
     → answer ≡ answer_to walk.space.config walk.space.space line
     → bad.place ≡ length case.items.now + 1 → bad.expected ≡ answer → bad.found ≡ answers.Nothing
-    → IsRefused case.config.now case.start.now case.lines.now case.items.now bad
+    → IsHistoryRefused case.config.now case.start.now case.lines.now case.items.now bad
 ends_early case walk caller line answer bad walked left at made stood is said =
     let lines : List TraceLine = case.lines.now in
     let items : List Item = case.items.now in
@@ -385,7 +385,7 @@ ends_early case walk caller line answer bad walked left at made stood is said =
 
 -- a refused history is not legal
 pub refused_legal : (config : Config) (start : List Entry) (lines : List TraceLine) (items : List Item) (bad : BadEntry)
-    → IsRefused config start lines items bad → IsLegalHistory config start lines items → ⊥
+    → IsHistoryRefused config start lines items bad → IsLegalHistory config start lines items → ⊥
 refused_legal config start lines items bad refused legal = elim refused.cause [
   | inl out ↦ out.refused (legal.stands refused.place out.item out.here)
   | inr other ↦ elim other [

@@ -71,7 +71,7 @@ pub record EndsEarly (config : Config) (start : List Entry) (lines : List TraceL
   pub found : bad.found ≡ answers.Nothing
 
 -- a history is refused at its first bad item, or at its end, whose place is told counted from 1
-pub record IsRefused (config : Config) (start : List Entry) (lines : List TraceLine) (items : List Item) (bad : BadEntry) : Type 0 where
+pub record IsHistoryRefused (config : Config) (start : List Entry) (lines : List TraceLine) (items : List Item) (bad : BadEntry) : Type 0 where
   pub place : ℕ
   pub counted : bad.place ≡ place + 1
   pub before : AreGood config start lines items place

@@ -63,22 +63,22 @@ abbrev pub AskThemselves : List TraceLine → Type 0
 AskThemselves lines = All (λ line. AsksItself line.op) lines
 
 -- what an item was asked to do
-abbrev pub op_of : Content → Op
-op_of (contents.Called call reply) = asks_for call
-op_of (contents.Fault page access verdict) = ops.Fault page access
-op_of (contents.List areas) = ops.Maps
+abbrev pub op_asked : Content → Op
+op_asked (contents.Called call reply) = asks_for call
+op_asked (contents.Fault page access verdict) = ops.Fault page access
+op_asked (contents.List areas) = ops.Maps
 
 -- The call that an operation makes at an address space, if it makes one: then it is an entry of the journal, and else a read. A fault that
 -- grows touches its page. Whatever else is said of lines goes by this.
-unfoldable pub call_of : Config → AddressSpace → Op → Option Call
-call_of config space (ops.Call call) = Some call
-call_of config space (ops.Fault page access) = if grows config space.areas page.0 access then Some (Touch page access) else None
-call_of config space ops.Maps = None
-call_of config space (ops.Fork child) = None
+unfoldable pub call_made : Config → AddressSpace → Op → Option Call
+call_made config space (ops.Call call) = Some call
+call_made config space (ops.Fault page access) = if grows config space.areas page.0 access then Some (Touch page access) else None
+call_made config space ops.Maps = None
+call_made config space (ops.Fork child) = None
 
 -- whether an operation makes a call at an address space
 abbrev pub makes_call : Config → AddressSpace → Op → Bool
-makes_call config space op = is_some (call_of config space op)
+makes_call config space op = is_some (call_made config space op)
 
 -- whether it is a call, and so an entry of the journal
 abbrev pub is_call : Content → Bool
@@ -100,12 +100,12 @@ unfoldable pub journal_of : List Item → List Entry
 journal_of items = filter_map entry_of items
 
 -- the line that an item answers: of its caller's lines, the next after those that items before it answer
-unfoldable pub line_of : List TraceLine → List Item → Item → Option TraceLine
-line_of lines before item = slice_get (lines_of lines item.caller) (length (items_of before item.caller))
+unfoldable pub line_answered : List TraceLine → List Item → Item → Option TraceLine
+line_answered lines before item = slice_get (lines_of lines item.caller) (length (items_of before item.caller))
 
 -- what a content was asked to do makes that call there: so it is of each call but a touch, which only a fault that grows makes
 abbrev pub IsMade : Config → AddressSpace → Content → Type 0
-IsMade config space (contents.Called call reply) = call_of config space (asks_for call) ≡ Some call
+IsMade config space (contents.Called call reply) = call_made config space (asks_for call) ≡ Some call
 IsMade config space (contents.Fault page access verdict) = Unit {0}
 IsMade config space (contents.List areas) = Unit {0}
 
@@ -124,9 +124,9 @@ pub record StandsAmong (lines : List TraceLine) (before : List Item) (number : �
 pub record CanStand (config : Config) (start : List Entry) (lines : List TraceLine) (before : List Item) (item : Item) : Type 0 where
   pub version : item.version ≡ length (journal_of before) + (if is_call item.content then 1 else 0)
   pub order : IfSome (last_or None before) (λ prior. is_call prior.content ≡ false → is_call item.content ≡ false → prior.caller ≤ item.caller)
-  pub next : IsSomeAnd (line_of lines before item) (λ line. read_as line.op ≡ op_of item.content)
+  pub next : IsSomeAnd (line_answered lines before item) (λ line. read_as line.op ≡ op_asked item.content)
   pub made : IsMade config (after config (start ++ journal_of before)) item.content
-  pub named : IfSome (line_of lines before item) (λ line. IfSome line.after (StandsAmong lines before))
+  pub named : IfSome (line_answered lines before item) (λ line. IfSome line.after (StandsAmong lines before))
 
 -- A content is right after a journal where its reply is the step's, its list the list, or its fault does not grow and has the verdict of
 -- the list.
@@ -178,15 +178,15 @@ version_by version None = version
 
 -- the answer of a line
 abbrev pub answer_of : Config → AddressSpace → Op → Content
-answer_of config space op = answer_by config space op (call_of config space op)
+answer_of config space op = answer_by config space op (call_made config space op)
 
 -- the address space after a line
 abbrev pub space_after : Config → AddressSpace → Op → AddressSpace
-space_after config space op = space_by config space (call_of config space op)
+space_after config space op = space_by config space (call_made config space op)
 
 -- the version after a line
 abbrev pub version_after : Config → AddressSpace → ℕ → Op → ℕ
-version_after config space version op = version_by version (call_of config space op)
+version_after config space version op = version_by version (call_made config space op)
 
 -- the items of some lines of a trace, one after another
 abbrev pub items_from : Config → List TraceLine → AddressSpace → ℕ → List TraceLine → List Item

@@ -15,7 +15,7 @@ use Rattle.area_rules.specs.Journals.{calls_by, version_of, IsReadAfter}
 use Rattle.history.specs.declared.items.Content.{Content}
 use Rattle.history.specs.declared.items.Content.TheVariants as contents
 use Rattle.history.specs.declared.items.Item.{Item}
-use Rattle.history.specs.Histories.{items_of, lines_of, read_as, asks_for, op_of, is_call, call_of, gather}
+use Rattle.history.specs.Histories.{items_of, lines_of, read_as, asks_for, op_asked, is_call, call_made, gather}
 
 -- the items of the entries of a journal that goes on from a version; an entry's version counts the entry itself
 unfoldable pub entry_items : ℕ → List Entry → List Item
@@ -51,7 +51,7 @@ own_of caller journal log = gather (items_of (entry_items 0 journal) caller ++ l
 
 -- what items were asked to do
 unfoldable pub ops_of : List Item → List Op
-ops_of items = map (λ item. op_of item.content) items
+ops_of items = map (λ item. op_asked item.content) items
 
 -- what lines ask for
 abbrev pub asked : List TraceLine → List Op
@@ -60,7 +60,7 @@ asked lines = map (λ line. read_as line.op) lines
 -- in a space that began with some entries, the operation of each entry behind them makes that call there
 abbrev pub AreMade : Config → List Entry → List Entry → Type 0
 AreMade config start journal = (place : ℕ) (entry : Entry) → slice_get journal place ≡ Some entry
-    → call_of config (after config (start ++ take place journal)) (asks_for entry.call) ≡ Some entry.call
+    → call_made config (after config (start ++ take place journal)) (asks_for entry.call) ≡ Some entry.call
 
 -- an entry is no touch, or one that grew
 abbrev pub HasGrown : Entry → Type 0

@@ -1,7 +1,7 @@
 //! What a history that is refused is told: the item that is bad, and what was expected there.
 ghost use Rattle.std.specs.Prelude.{◌≡◌, ◌≢◌, ◌↔◌, false, IsTrue, IsOk, IfOk};
 ghost use Rattle.history.specs.Checking.{answer_in};
-ghost use Rattle.history.specs.Internal.Walks.{is_list, shown};
+ghost use Rattle.history.specs.Internal.Walks.{is_list, answer_expected};
 
 use crate::items::Content;
 use crate::same::{same_call, same_list, same_reply, same_verdict};
@@ -75,7 +75,7 @@ impl Answer {
 impl Expected {
     /// The answer over an address space, with a copy of its areas where it is the list.
     pub(crate) fn answer(&self, alloc: Global, space: &PlainSpace<'_>) -> Result<Answer, NoMemory>
-        ensures answer { IfOk result (λ answer. answer ≡ shown space.now.space.areas self.now) }
+        ensures answer { IfOk result (λ answer. answer ≡ answer_expected space.now.space.areas self.now) }
         ensures at_once { self.now ≢ Expected.List → IsOk result }
     {
         match self {
@@ -93,7 +93,7 @@ impl Expected {
         space: &PlainSpace<'_>,
         content: &Content,
     ) -> Result<bool, NoMemory>
-        ensures is { IfOk result (λ is. IsTrue is ↔ (shown space.now.space.areas self.now ≡ answer_in content.now)) }
+        ensures is { IfOk result (λ is. IsTrue is ↔ (answer_expected space.now.space.areas self.now ≡ answer_in content.now)) }
         ensures at_once { is_list content.now ≡ false → IsOk result }
         ensures other { self.now ≢ Expected.List → IsOk result }
     {
@@ -131,7 +131,7 @@ impl Expected {
         space: &PlainSpace<'_>,
         list: &AreaList,
     ) -> Result<bool, NoMemory>
-        ensures is { IfOk result (λ is. IsTrue is ↔ (shown space.now.space.areas self.now ≡ Answer.List list.now)) }
+        ensures is { IfOk result (λ is. IsTrue is ↔ (answer_expected space.now.space.areas self.now ≡ Answer.List list.now)) }
         ensures other { self.now ≢ Expected.List → IsOk result }
     {
         match self {

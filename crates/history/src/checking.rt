@@ -6,10 +6,10 @@ ghost use Rattle.trace_reader.specs.declared.limits.TheConstants.{MOST_LINES};
 ghost use Rattle.history.specs.declared.answers.BadEntry.{BadEntry};
 ghost use Rattle.history.specs.declared.callers.TheConstants.{MOST_THREADS};
 ghost use Rattle.history.specs.declared.items.Item.{Item};
-ghost use Rattle.history.specs.Histories.{CanStand, IsLegalHistory, IsMade, asks_for, call_of, read_of};
-ghost use Rattle.history.specs.Checking.{answer_in, answer_to, next_line, IsRefused};
+ghost use Rattle.history.specs.Histories.{CanStand, IsLegalHistory, IsMade, asks_for, call_made, read_of};
+ghost use Rattle.history.specs.Checking.{answer_in, answer_to, next_line, IsHistoryRefused};
 ghost use Rattle.history.specs.Parents.{parent_lines};
-ghost use Rattle.history.specs.Internal.Walks.{shown, space_after_line, HasBegun, IsWalked, IsToldRightly};
+ghost use Rattle.history.specs.Internal.Walks.{answer_expected, space_after_line, HasBegun, IsHistoryWalked, IsRefusalRight};
 
 use crate::answers::{Answer, BadEntry, CheckError, Expected};
 use crate::items::{Content, History, Item};
@@ -44,7 +44,7 @@ pub fn check(alloc: Global, trace: &Trace, history: &History) -> Result<(), Chec
     requires { IsTraceValue trace.now }
     ensures legal { OnOk result (IsLegalHistory trace.now.config [] (parent_lines trace.now.lines) history.now) }
     ensures refused { (bad : BadEntry) → result ≡ Err (CheckError.Bad bad)
-        → IsRefused trace.now.config [] (parent_lines trace.now.lines) history.now bad }
+        → IsHistoryRefused trace.now.config [] (parent_lines trace.now.lines) history.now bad }
 {
     let lines = SpaceLines::parent_of(alloc, trace)?;
     check_after(alloc, &trace.config, &[], &lines, history)
@@ -62,7 +62,7 @@ pub fn check_after(
     requires begun { length start.now ≤ 2 ^ 31 }
     ensures legal { OnOk result (IsLegalHistory config.now start.now lines.now history.now) }
     ensures refused { (bad : BadEntry) → result ≡ Err (CheckError.Bad bad)
-        → IsRefused config.now start.now lines.now history.now bad }
+        → IsHistoryRefused config.now start.now lines.now history.now bad }
 {
     check_lines(alloc, config, start, lines.items(), history)
 }
@@ -82,7 +82,7 @@ fn check_lines(
     requires numbered { AreNumbered lines.now }
     ensures legal { OnOk result (IsLegalHistory config.now start.now lines.now history.now) }
     ensures refused { (bad : BadEntry) → result ≡ Err (CheckError.Bad bad)
-        → IsRefused config.now start.now lines.now history.now bad }
+        → IsHistoryRefused config.now start.now lines.now history.now bad }
 {
     let case = Case {
         config,
@@ -105,7 +105,7 @@ impl<'a> Walk<'a> {
         requires few { length case.now.lines.now ≤ MOST_LINES }
         requires threads { All (λ line. line.thread < MOST_THREADS) case.now.lines.now }
         requires numbered { AreNumbered case.now.lines.now }
-        ensures { IfOk result (IsWalked case.now 0) }
+        ensures { IfOk result (IsHistoryWalked case.now 0) }
     {
         Ok(Walk {
             progress: Progress::new(alloc, case.lines)?,
@@ -116,9 +116,9 @@ impl<'a> Walk<'a> {
     /// Judges the next item, which stands at this place.
     fn judge(&mut self, alloc: Global, case: &Case<'_>, place: usize) -> Result<(), CheckError>
         requires within { place < length case.now.items.now }
-        requires walked { IsWalked case.now place self.old }
-        ensures ok { OnOk result (IsWalked case.now (place + 1) self.new) }
-        ensures refused { IfErr result (IsToldRightly case.now) }
+        requires walked { IsHistoryWalked case.now place self.old }
+        ensures ok { OnOk result (IsHistoryWalked case.now (place + 1) self.new) }
+        ensures refused { IfErr result (IsRefusalRight case.now) }
     {
         let item = &case.items[place];
         let line = self.progress.next_line(item.caller as usize);
@@ -144,7 +144,7 @@ impl<'a> Walk<'a> {
 
     /// Whether an item can stand at a place, where this is the next line of its caller.
     fn can_stand(&self, case: &Case<'_>, place: usize, item: &Item, line: Option<TraceLine>) -> bool
-        requires walked { IsWalked case.now place self.now }
+        requires walked { IsHistoryWalked case.now place self.now }
         requires next { line ≡ next_line case.now.lines.now (take place case.now.items.now) item.now.caller }
         ensures { IsTrue result ↔ CanStand case.now.config.now case.now.start.now case.now.lines.now
             (take place case.now.items.now) item.now }
@@ -156,9 +156,9 @@ impl<'a> Walk<'a> {
 
     /// Judges the end of the items.
     fn end(&mut self, alloc: Global, case: &Case<'_>) -> Result<(), CheckError>
-        requires { IsWalked case.now (length case.now.items.now) self.old }
+        requires { IsHistoryWalked case.now (length case.now.items.now) self.old }
         ensures legal { OnOk result (IsLegalHistory case.now.config.now case.now.start.now case.now.lines.now case.now.items.now) }
-        ensures refused { IfErr result (IsToldRightly case.now) }
+        ensures refused { IfErr result (IsRefusalRight case.now) }
     {
         let Some(caller) = self.progress.unfinished() else {
             return Ok(());
@@ -197,9 +197,9 @@ fn is_made(space: &PlainSpace<'_>, content: &Content) -> bool
 }
 
 /// Whether what asks for a call makes it over an address space: a touch is made by a fault that grows.
-#[tactic(auto, unfolding(crate::specs::Histories::call_of, crate::specs::Histories::asks_for))]
+#[tactic(auto, unfolding(crate::specs::Histories::call_made, crate::specs::Histories::asks_for))]
 fn makes(space: &PlainSpace<'_>, call: &Call) -> bool
-    ensures { IsTrue result ↔ (call_of space.now.config space.now.space (asks_for call.now) ≡ Some call.now) }
+    ensures { IsTrue result ↔ (call_made space.now.config space.now.space (asks_for call.now) ≡ Some call.now) }
 {
     match call {
         Call::Touch { page, access } => space.grows(*page, *access),
@@ -215,7 +215,7 @@ fn makes(space: &PlainSpace<'_>, call: &Call) -> bool
 /// What an address space answers to a line, of which a call is then made; nothing where there is none.
 fn run_line(space: &mut PlainSpace<'_>, line: Option<TraceLine>) -> Expected
     requires room { space.old.space.objects < 2 ^ 32 - 1 }
-    ensures answer { shown space.new.space.areas result ≡ answer_to space.old.config space.old.space line }
+    ensures answer { answer_expected space.new.space.areas result ≡ answer_to space.old.config space.old.space line }
     ensures space { space.new.space ≡ space_after_line space.old.config space.old.space line }
     ensures config { space.new.config ≡ space.old.config }
     ensures objects { space.new.space.objects ≤ space.old.space.objects + 1 }
@@ -231,7 +231,7 @@ fn run_line(space: &mut PlainSpace<'_>, line: Option<TraceLine>) -> Expected
 
 /// What an operation reads over an address space, where it makes no call.
 fn read_by(space: &PlainSpace<'_>, op: Op) -> Expected
-    ensures { shown space.now.space.areas result ≡ answer_in (read_of space.now.config space.now.space op) }
+    ensures { answer_expected space.now.space.areas result ≡ answer_in (read_of space.now.config space.now.space op) }
 {
     match op {
         Op::Fault { page, access } => Expected::Fault(space.verdict(page, access)),

@@ -1,5 +1,5 @@
 ghost use Rattle.std.specs.Prelude.{◌≡◌, ◌↔◌, IsTrue, IsSomeAnd};
-ghost use Rattle.history.specs.Histories.{is_call, read_as, asks_for, op_of};
+ghost use Rattle.history.specs.Histories.{is_call, read_as, asks_for, op_asked};
 
 use crate::same::same_call;
 use mm_types::{Access, AreaList, Call, Page, Reply, Verdict};
@@ -39,7 +39,7 @@ impl Item {
 
     /// Whether there is a line, and it asks for this.
     pub(crate) fn answers(&self, line: Option<TraceLine>) -> bool
-        ensures { IsTrue result ↔ IsSomeAnd line (λ line. read_as line.op ≡ op_of self.now.content) }
+        ensures { IsTrue result ↔ IsSomeAnd line (λ line. read_as line.op ≡ op_asked self.now.content) }
     {
         match line {
             Some(line) => self.content.is_asked(&line.op),
@@ -51,7 +51,7 @@ impl Item {
 impl Content {
     /// Whether an operation asks for this.
     fn is_asked(&self, op: &Op) -> bool
-        ensures { IsTrue result ↔ (read_as op.now ≡ op_of self.now) }
+        ensures { IsTrue result ↔ (read_as op.now ≡ op_asked self.now) }
     {
         match self {
             Content::Called(call, _) => asks_for(op, call),

@@ -13,8 +13,8 @@ ghost use Rattle.history.specs.declared.items.Item.{Item};
 ghost use Rattle.trace_reader.specs.declared.trace.TraceLine.{TraceLine};
 ghost use Rattle.area_rules.specs.Tables.{AddressSpace};
 ghost use Rattle.area_rules.specs.Steps.{opening, after};
-ghost use Rattle.history.specs.Histories.{occurs, caller_of, AskThemselves, makes_call, journal_of, line_of, IsLegalHistory, serial_history, space_after_all, sort_by_caller, leading_reads, after_reads, answered_by, answered};
-ghost use Rattle.history.specs.Checking.{IsRefused};
+ghost use Rattle.history.specs.Histories.{occurs, caller_of, AskThemselves, makes_call, journal_of, line_answered, IsLegalHistory, serial_history, space_after_all, sort_by_caller, leading_reads, after_reads, answered_by, answered};
+ghost use Rattle.history.specs.Checking.{IsHistoryRefused};
 
 /// A trace has at most 64 threads.
 pub fn most_threads()
@@ -29,7 +29,7 @@ pub fn serial_history_by_version()
         → serial_history config lines ≡ map (λ pair. pair.1) (answered config lines (opening config) 0 [] lines) }
     ensures lines { (config : Config) (lines : List TraceLine) (place : ℕ) (pair : TraceLine × Item)
         → AskThemselves lines → slice_get (answered config lines (opening config) 0 [] lines) place ≡ Some pair
-        → line_of lines (take place (serial_history config lines)) pair.1 ≡ Some pair.0 }
+        → line_answered lines (take place (serial_history config lines)) pair.1 ≡ Some pair.0 }
     ensures space { (config : Config) (lines : List TraceLine)
         → after config (journal_of (serial_history config lines)) ≡ space_after_all config (opening config) lines }
     ensures groups { (config : Config) (trace : List TraceLine) (space : AddressSpace) (version : ℕ) (pending : List TraceLine)
@@ -66,7 +66,7 @@ pub fn serial_history_is_legal()
 /// A history that is refused is not legal, so `check` accepts exactly the legal histories.
 pub fn refused_is_not_legal()
     ensures { (config : Config) (start : List Entry) (lines : List TraceLine) (items : List Item) (bad : BadEntry)
-        → IsRefused config start lines items bad → IsLegalHistory config start lines items → ⊥ }
+        → IsHistoryRefused config start lines items bad → IsLegalHistory config start lines items → ⊥ }
 {}
 
 /// Lines that a trace has, whose calls are no touches, ask for the calls that they name.

@@ -7,7 +7,7 @@ ghost use Rattle.mm_types.specs.declared.config.Config.{Config};
 ghost use Rattle.trace_reader.specs.declared.trace.TraceLine.{TraceLine};
 ghost use Rattle.trace_reader.specs.Values.{AreNumbered, AreNamesRight};
 ghost use Rattle.area_rules.specs.Journals.{calls_by, version_of};
-ghost use Rattle.history.specs.Histories.{caller_of, lines_of, asks_for, op_of, journal_of, IsLegalHistory, serial_history};
+ghost use Rattle.history.specs.Histories.{caller_of, lines_of, asks_for, op_asked, journal_of, IsLegalHistory, serial_history};
 ghost use Rattle.history.specs.Runs.{content_of, own_of, ops_of, history_of, HasGrown, AreMade, IsLegalAfter, IsRun};
 ghost use Rattle.history.specs.Labels.{label_of, IsSerialRun};
 
@@ -19,7 +19,7 @@ pub fn one_operation_more()
         → ops_of (own_of caller ((old ++ rest) ++ entry ∷ []) log) ≡ ops_of (own_of caller old log) ++ asks_for entry.call ∷ [] }
     ensures read { (old rest : List Entry) (log : List Seen) (read : Seen) (caller : ℕ) → calls_by caller rest ≡ []
         → All (λ read. version_of read ≤ length old) log → version_of read ≡ length (old ++ rest)
-        → ops_of (own_of caller (old ++ rest) (log ++ read ∷ [])) ≡ ops_of (own_of caller old log) ++ op_of (content_of read) ∷ [] }
+        → ops_of (own_of caller (old ++ rest) (log ++ read ∷ [])) ≡ ops_of (own_of caller old log) ++ op_asked (content_of read) ∷ [] }
     ensures idle { (old rest : List Entry) (log : List Seen) (caller : ℕ) → calls_by caller rest ≡ []
         → own_of caller (old ++ rest) log ≡ own_of caller old log }
     ensures none { (caller : ℕ) → own_of caller [] [] ≡ [] }

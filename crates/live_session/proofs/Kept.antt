@@ -15,7 +15,7 @@ use Rattle.text_lexer.specs.Words.{words_of}
 use Rattle.trace_reader.specs.Lines.{SoFar}
 use Rattle.live_session.specs.declared.held.TheConstants.{MOST_KEPT}
 use Rattle.live_session.specs.Asking.{asked_by_words, asked_of}
-use Rattle.live_session.specs.Sessions.{Answer, Session, answer_by, answered, answers, bad_text, closing_text, ending_text, pieces_of, session_after, unended_text}
+use Rattle.live_session.specs.Sessions.{LineAnswer, Session, session_answer, line_answer, answers, bad_text, closing_text, ending_text, pieces_of, session_after, unended_text}
 use Rattle.live_session.specs.Internal.Held.{HasNoNewline, kept, kept_pieces}
 use Rattle.live_session.proofs.Newlines.{none_take}
 use Rattle.live_session.proofs.Pieces.{some_pieces}
@@ -50,15 +50,15 @@ asked_long : (so_far : SoFar) (line : RawLine) → text_of line ≡ Err TooLong 
 unfolding asked_of
 asked_long so_far line long = ap (λ r. r >>= λ text. asked_by_words so_far line (words_of text)) long
 
-pub answered-kept : (s : Session) (text : List ℕ) → answered s (kept text) ≡ answered s text
-unfolding answered
+pub answered-kept : (s : Session) (text : List ℕ) → line_answer s (kept text) ≡ line_answer s text
+unfolding line_answer
 answered-kept s text = by_length (IsLong text) refl
   where
-    by_length : (b : Bool) → IsLong text ≡ b → answered s (kept text) ≡ answered s text
-    by_length true long = ap (answer_by s)
+    by_length : (b : Bool) → IsLong text ≡ b → line_answer s (kept text) ≡ line_answer s text
+    by_length true long = ap (session_answer s)
         (asked_long s.so_far (raw_line (s.count + 1) 0 (kept text) true) (too_long (s.count + 1) (kept text) true (kept_long text long))
         ∙ sym (asked_long s.so_far (raw_line (s.count + 1) 0 text true) (too_long (s.count + 1) text true long)))
-    by_length false short = ap (answered s) (kept_short text short)
+    by_length false short = ap (line_answer s) (kept_short text short)
 
 ending_long : (s : Session) (text : List ℕ) → IsLong text ≡ true → ending_text s text ≡ bad_text (s.count + 1) TooLong ++ closing_text s
 unfolding ending_text
@@ -81,13 +81,13 @@ ending_text-kept s text = by_length (IsLong text) refl
 pub answers-kept : (s : Session) (lines : List (List ℕ)) → answers s (map kept lines) ≡ answers s lines
 answers-kept s [] = refl
 answers-kept s (line ∷ lines) =
-    ap (λ (a : Answer). a.text ++ answers a.session (map kept lines)) (answered-kept s line)
-    ∙ ap (λ (t : List ℕ). (answered s line).text ++ t) (answers-kept (answered s line).session lines)
+    ap (λ (a : LineAnswer). a.text ++ answers a.session (map kept lines)) (answered-kept s line)
+    ∙ ap (λ (t : List ℕ). (line_answer s line).text ++ t) (answers-kept (line_answer s line).session lines)
 
 pub session_after-kept : (s : Session) (lines : List (List ℕ)) → session_after s (map kept lines) ≡ session_after s lines
 session_after-kept s [] = refl
 session_after-kept s (line ∷ lines) =
-    ap (λ (a : Answer). session_after a.session (map kept lines)) (answered-kept s line) ∙ session_after-kept (answered s line).session lines
+    ap (λ (a : LineAnswer). session_after a.session (map kept lines)) (answered-kept s line) ∙ session_after-kept (line_answer s line).session lines
 
 -- ---- of bytes without a newline what is kept may stand for them
 

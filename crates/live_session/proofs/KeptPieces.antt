@@ -1,15 +1,15 @@
 -- Serves `conversing.rt` and `held.rt`: what is given for an input, by what is kept of its pieces.
 use Rattle.std.proofs.Common.{◌≡◌, ◌+◌, ◌-◌, ◌<◌, ◌∙◌, ℕ, List, [], ◌∷◌, ◌++◌, length, map, take, drop, get_or, refl, sym, ap, arith, append_assoc, append-nil}
 use Rattle.std.proofs.lemmas.List.{get_or-map, length-map, take-map}
-use Rattle.live_session.specs.Sessions.{Session, begun, pieces_of, whole_lines, last_piece, answers, closing_text, session_after, ending_text, answers_of, session_text}
-use Rattle.live_session.specs.Internal.Held.{HasLine, HasNoNewline, kept, kept_pieces}
+use Rattle.live_session.specs.Sessions.{Session, session_begun, pieces_of, whole_lines, last_piece, answers, closing_text, session_after, ending_text, answers_of, session_text}
+use Rattle.live_session.specs.Internal.Held.{HasNewlineAt, HasNoNewline, kept, kept_pieces}
 use Rattle.live_session.proofs.Pieces.{answers-append, cut_whole, last_of, line_cut, rest_cut, some_pieces}
 use Rattle.live_session.proofs.Kept.{answers-kept, ending_text-kept, session_after-kept}
 
 -- ---- pieces as they are kept
 
 -- a first line, and what follows it
-pub line_kept : (bytes more : List ℕ) (len : ℕ) → HasLine bytes len
+pub line_kept : (bytes more : List ℕ) (len : ℕ) → HasNewlineAt bytes len
     → kept_pieces (bytes ++ more) ≡ kept (take len bytes) ∷ kept_pieces (drop (len + 1) bytes ++ more)
 line_kept bytes more len has = ap (map kept) (line_cut bytes more len has)
 
@@ -42,46 +42,46 @@ last_piece-kept input =
 
 -- ---- what is given for an input
 
-pub answers_of-kept : (input : List ℕ) → answers_of input ≡ answers begun (front_of (kept_pieces input))
+pub answers_of-kept : (input : List ℕ) → answers_of input ≡ answers session_begun (front_of (kept_pieces input))
 unfolding answers_of
-answers_of-kept input = sym (answers-kept begun (whole_lines input)) ∙ ap (answers begun) (whole_lines-kept input)
+answers_of-kept input = sym (answers-kept session_begun (whole_lines input)) ∙ ap (answers session_begun) (whole_lines-kept input)
 
 session_text-kept : (input : List ℕ)
-    → session_text input ≡ answers begun (front_of (kept_pieces input)) ++ ending_text (session_after begun (front_of (kept_pieces input))) (last_in (kept_pieces input))
+    → session_text input ≡ answers session_begun (front_of (kept_pieces input)) ++ ending_text (session_after session_begun (front_of (kept_pieces input))) (last_in (kept_pieces input))
 unfolding session_text
 session_text-kept input =
-    ap (λ (t : List ℕ). t ++ ending_text (session_after begun (whole_lines input)) (last_piece input)) (answers_of-kept input)
-    ∙ ap (λ (x : Session). answers begun (front_of (kept_pieces input)) ++ ending_text x (last_piece input))
-    (sym (session_after-kept begun (whole_lines input)) ∙ ap (session_after begun) (whole_lines-kept input))
-    ∙ ap (λ (t : List ℕ). answers begun (front_of (kept_pieces input)) ++ t)
-    (sym (ending_text-kept (session_after begun (front_of (kept_pieces input))) (last_piece input))
-    ∙ ap (ending_text (session_after begun (front_of (kept_pieces input)))) (last_piece-kept input))
+    ap (λ (t : List ℕ). t ++ ending_text (session_after session_begun (whole_lines input)) (last_piece input)) (answers_of-kept input)
+    ∙ ap (λ (x : Session). answers session_begun (front_of (kept_pieces input)) ++ ending_text x (last_piece input))
+    (sym (session_after-kept session_begun (whole_lines input)) ∙ ap (session_after session_begun) (whole_lines-kept input))
+    ∙ ap (λ (t : List ℕ). answers session_begun (front_of (kept_pieces input)) ++ t)
+    (sym (ending_text-kept (session_after session_begun (front_of (kept_pieces input))) (last_piece input))
+    ∙ ap (ending_text (session_after session_begun (front_of (kept_pieces input)))) (last_piece-kept input))
 
 -- where no line is left
 front_whole : (input : List ℕ) (lines : List (List ℕ)) (rest : List ℕ) → kept_pieces input ≡ lines ++ rest ∷ [] → front_of (kept_pieces input) ≡ lines
 front_whole input lines rest cut = ap front_of cut ∙ cut_whole lines (rest ∷ []) (omega arith) ∙ append-nil lines
 
-pub answers_of-whole : (input : List ℕ) (lines : List (List ℕ)) (rest : List ℕ) → kept_pieces input ≡ lines ++ rest ∷ [] → answers_of input ≡ answers begun lines
-answers_of-whole input lines rest cut = answers_of-kept input ∙ ap (answers begun) (front_whole input lines rest cut)
+pub answers_of-whole : (input : List ℕ) (lines : List (List ℕ)) (rest : List ℕ) → kept_pieces input ≡ lines ++ rest ∷ [] → answers_of input ≡ answers session_begun lines
+answers_of-whole input lines rest cut = answers_of-kept input ∙ ap (answers session_begun) (front_whole input lines rest cut)
 
 pub session_text-whole : (input : List ℕ) (lines : List (List ℕ)) (rest : List ℕ) → kept_pieces input ≡ lines ++ rest ∷ []
-    → session_text input ≡ answers begun lines ++ ending_text (session_after begun lines) rest
+    → session_text input ≡ answers session_begun lines ++ ending_text (session_after session_begun lines) rest
 session_text-whole input lines rest cut =
     session_text-kept input
-    ∙ ap (λ (l : List (List ℕ)). answers begun l ++ ending_text (session_after begun l) (last_in (kept_pieces input))) (front_whole input lines rest cut)
-    ∙ ap (λ (t : List ℕ). answers begun lines ++ ending_text (session_after begun lines) t) (ap last_in cut ∙ last_of lines rest)
+    ∙ ap (λ (l : List (List ℕ)). answers session_begun l ++ ending_text (session_after session_begun l) (last_in (kept_pieces input))) (front_whole input lines rest cut)
+    ∙ ap (λ (t : List ℕ). answers session_begun lines ++ ending_text (session_after session_begun lines) t) (ap last_in cut ∙ last_of lines rest)
 
 -- what is given for an input begins with the answers to lines that it begins with
 pub session_text-front : (input : List ℕ) (lines : List (List ℕ)) (held : List ℕ) → kept_pieces input ≡ lines ++ kept_pieces held
-    → (rest : List ℕ) × (session_text input ≡ answers begun lines ++ rest)
+    → (rest : List ℕ) × (session_text input ≡ answers session_begun lines ++ rest)
 session_text-front input lines held cut =
-    let ending : List ℕ = ending_text (session_after begun (front_of (kept_pieces input))) (last_in (kept_pieces input)) in
-    let more : List ℕ = answers (session_after begun lines) (front_of (kept_pieces held)) in (
+    let ending : List ℕ = ending_text (session_after session_begun (front_of (kept_pieces input))) (last_in (kept_pieces input)) in
+    let more : List ℕ = answers (session_after session_begun lines) (front_of (kept_pieces held)) in (
       more ++ ending,
       session_text-kept input
           ∙ ap (λ (t : List ℕ). t ++ ending)
-          (ap (answers begun) (ap front_of cut ∙ cut_whole lines (kept_pieces held) (some_kept held)) ∙ answers-append begun lines (front_of (kept_pieces held)))
-          ∙ append_assoc (answers begun lines) more ending,
+          (ap (answers session_begun) (ap front_of cut ∙ cut_whole lines (kept_pieces held) (some_kept held)) ∙ answers-append session_begun lines (front_of (kept_pieces held)))
+          ∙ append_assoc (answers session_begun lines) more ending,
     )
 
 -- nothing is given for no byte

@@ -12,9 +12,9 @@ use Rattle.text_lexer.specs.Lines.{RawLine, text_of}
 use Rattle.text_lexer.specs.Words.{words_of, is_comment, begins_with_digit, text_after_words}
 use Rattle.trace_reader.specs.declared.trace.TraceLine.{TraceLine}
 use Rattle.trace_reader.specs.Grammar.{config_of}
-use Rattle.trace_reader.specs.Lines.{SoFar, version_of, with_header, with_one, with_line, once, with_limit, with_top, with_min, with_heap, with_file, has_descriptor, after_setting, after_words, after_line}
-use Rattle.trace_reader.specs.Operations.{line_of}
-use Rattle.trace_reader.specs.Settings.{limit_of, bound_of, file_of}
+use Rattle.trace_reader.specs.Lines.{SoFar, read_version, with_header, with_one, with_line, once, with_limit, with_top, with_min, with_heap, with_file, has_descriptor, after_setting, after_words, after_trace_line}
+use Rattle.trace_reader.specs.Operations.{read_line}
+use Rattle.trace_reader.specs.Settings.{limit_of, bound_of, read_file}
 
 -- ---- what holds of a result
 
@@ -89,9 +89,9 @@ unfolding after_setting
 after_setting-lines Q s text first words some =
     of_rows (Of Q) (nat_lt 0 (length s.lines)) (bytes_eq first (codes "limit")) (bytes_eq first (codes "top")) (bytes_eq first (codes "min"))
     (bytes_eq first (codes "heap")) (bytes_eq first (codes "file")) (Err Word) (with_limit s words) (with_top s words) (with_min s words) (with_heap s words)
-    (file_of words (text_after_words 6 text) >>= λ file. with_file s file) (Err Word)
+    (read_file words (text_after_words 6 text) >>= λ file. with_file s file) (Err Word)
     tt (with_limit-lines Q s words some) (with_top-lines Q s words some) (with_min-lines Q s words some) (with_heap-lines Q s words some)
-    (bind_holds (Of Q) (file_of words (text_after_words 6 text)) (λ file. with_file s file) (λ file. with_file-lines Q s file some)) tt
+    (bind_holds (Of Q) (read_file words (text_after_words 6 text)) (λ file. with_file s file) (λ file. with_file-lines Q s file some)) tt
 
 after_setting-first : (s : SoFar) (text first : List ℕ) (words : List (List ℕ)) → IfOk (after_setting s text first words) (λ _. s.lines ≡ [])
 unfolding after_setting
@@ -120,17 +120,17 @@ unfolding after_words
 after_words-adds s number text [] = inr (refl, inr refl)
 after_words-adds s number text (first ∷ words) =
     either (Adds s) (is_comment first) (Ok s) _ (λ _. inr (refl, inr refl))
-    (λ _. either (Adds s) (begins_with_digit first) (line_of number first words >>= λ line. with_line s line) (after_setting s text first words)
-    (λ _. bind_holds (Adds s) (line_of number first words) _ (λ line. with_line-adds s line))
+    (λ _. either (Adds s) (begins_with_digit first) (read_line number first words >>= λ line. with_line s line) (after_setting s text first words)
+    (λ _. bind_holds (Adds s) (read_line number first words) _ (λ line. with_line-adds s line))
     (λ _. after_setting-adds s text first words))
 
 with_header-adds : (s : SoFar) (words : List (List ℕ)) → s.lines ≡ [] → IfOk (with_header s words) (Adds s)
 unfolding with_header
-with_header-adds s words none = bind_holds (Adds s) (ok_or (version_of words) Header) _ (λ version. inr (refl, inl none))
+with_header-adds s words none = bind_holds (Adds s) (ok_or (read_version words) Header) _ (λ version. inr (refl, inl none))
 
 -- the header is above all lines
-pub after_line-adds : (s : SoFar) (line : RawLine) → (line.number ≡ 1 → s.lines ≡ []) → IfOk (after_line s line) (Adds s)
-unfolding after_line
+pub after_line-adds : (s : SoFar) (line : RawLine) → (line.number ≡ 1 → s.lines ≡ []) → IfOk (after_trace_line s line) (Adds s)
+unfolding after_trace_line
 after_line-adds s line headed = bind_holds (Adds s) (text_of line) _
     (λ text. either (Adds s) (nat_eq line.number 1) (with_header s (words_of text)) (after_words s line.number text (words_of text))
     (λ first. with_header-adds s (words_of text) (headed (eqb-true line.number 1 first))) (λ _. after_words-adds s line.number text (words_of text)))

@@ -6,23 +6,25 @@ use Rattle.mm_types.specs.declared.config.Config.{Config}
 use Rattle.area_rules.specs.Steps.{opening}
 use Rattle.area_rules.specs.Tables.{AddressSpace}
 use Rattle.text_lexer.specs.declared.error.Cause.{Cause}
+use Rattle.text_lexer.specs.declared.error.Cause.TheVariants.{Child}
+use Rattle.text_lexer.specs.Causes.{◌>>=◌}
 use Rattle.text_lexer.specs.Lines.{RawLine, raw_line, text_of}
 use Rattle.text_lexer.specs.Words.{words_of}
 use Rattle.trace_reader.specs.declared.trace.Op.{Op}
 use Rattle.trace_reader.specs.declared.trace.Op.TheVariants.{Maps}
 use Rattle.trace_reader.specs.declared.trace.TraceLine.{TraceLine}
 use Rattle.trace_reader.specs.Grammar.{config_of}
-use Rattle.trace_reader.specs.Lines.{SoFar, after_line}
+use Rattle.trace_reader.specs.Lines.{SoFar, after_trace_line}
 use Rattle.history.specs.declared.items.Item.{Item}
-use Rattle.history.specs.Histories.{answer_of, call_of, caller_of, gather, items_from, serial_history, space_after, version_after}
-use Rattle.output.specs.Output.{content_text, item_text, start_text, maps_text}
+use Rattle.history.specs.Histories.{answer_of, call_made, caller_of, gather, items_from, serial_history, space_after, version_after}
+use Rattle.output.specs.Output.{content_text, item_text, item_start, maps_text}
 use Rattle.live_session.specs.declared.asking.Asked.{Asked}
 use Rattle.live_session.specs.declared.asking.Asked.TheVariants as asks
-use Rattle.live_session.specs.Asking.{asked_by_words, asked_of, asked_of_new, is_new, list_read, own_line, own_or}
+use Rattle.live_session.specs.Asking.{added_or, asked_by_words, asked_of, asked_of_new, is_fork_line, is_new, is_query_line, list_read, query_of}
 use Rattle.live_session.specs.Items.{IsTextOfItem, after_operations, items_made}
-use Rattle.live_session.specs.Sessions.{Opened, Session, after_operation, answer_by, answer_read, answered, begun, opened_by, operation_text, read_at, refused, session_after, space_of}
+use Rattle.live_session.specs.Sessions.{Opened, Session, after_operation, session_answer, answer_read, line_answer, session_begun, opened_by, operation_text, line_asks, refused, session_after, session_space}
 use Rattle.live_session.proofs.LinesAdded.{Adds, after_line-adds}
-use Rattle.live_session.proofs.Reached.{IsOwn, IsOwnLine, beyond_holds, list_read-own, ok_holds, own_line-own}
+use Rattle.live_session.proofs.Reached.{IsList, IsOwn, beyond_holds, list_read-list, ok_holds}
 
 -- ---- what a line that was read adds
 
@@ -57,12 +59,10 @@ added_read s after (inr none) =
     subst (λ (o : Option TraceLine). Leaves s after (asked_of_new o))
     (sym (ap (λ (l : List TraceLine). slice_get l (length s.lines)) none.0 ∙ slice_get_past s.lines (length s.lines) (omega arith))) none
 
-own_or-read : (s : SoFar) (own list : Option (Result Asked Cause)) (read : Result SoFar Cause) → IsOwnLine own → IsOwnLine list → IfOk read (Adds s)
-    → IfOk (own_or own list s read) (IsRead s)
-own_or-read s (Some (Ok asked)) list read own listed adds = own_read s asked own
-own_or-read s (Some (Err cause)) list read own listed adds = tt
-own_or-read s None list (Ok after) own listed adds = added_read s after adds
-own_or-read s None list (Err cause) own listed adds =
+added_or-read : (s : SoFar) (list : Option TraceLine) (read : Result SoFar Cause) → IsList list → IfOk read (Adds s)
+    → IfOk (added_or list s read) (IsRead s)
+added_or-read s list (Ok after) listed adds = added_read s after adds
+added_or-read s list (Err cause) listed adds =
     beyond_holds (IsRead s) s cause list listed (λ asked mine. own_read s asked mine)
 
 asked_by_words-read : (s : SoFar) (line : RawLine) (words : List (List ℕ)) → (line.number ≡ 1 → s.lines ≡ []) → IfOk (asked_by_words s line words) (IsRead s)
@@ -70,9 +70,13 @@ unfolding asked_by_words
 asked_by_words-read s line words headed =
     cond_both (is_new words) (Ok (asks.New, s)) _ (λ (r : Result (Asked × SoFar) Cause). IfOk r (IsRead s))
     (λ _. tt)
-    (λ _. own_or-read s (if nat_lt 1 line.number then own_line words else None) (list_read line.number words) (after_line s line)
-    (cond_both (nat_lt 1 line.number) (own_line words) None IsOwnLine (λ _. own_line-own words) (λ _. tt)) (list_read-own line.number words)
-    (after_line-adds s line headed))
+    (λ _. cond_both (is_query_line line.number words) (query_of words >>= λ address. Ok (asks.Query address, s)) _
+    (λ (r : Result (Asked × SoFar) Cause). IfOk r (IsRead s))
+    (λ _. ok_holds (IsRead s) (query_of words) _ (λ address. refl))
+    (λ _. cond_both (is_fork_line line.number words) (Err Child) _ (λ (r : Result (Asked × SoFar) Cause). IfOk r (IsRead s))
+    (λ _. tt)
+    (λ _. added_or-read s (list_read line.number words) (after_trace_line s line) (list_read-list line.number words)
+    (after_line-adds s line headed))))
 
 asked_of-read : (s : SoFar) (line : RawLine) → (line.number ≡ 1 → s.lines ≡ []) → IfOk (asked_of s line) (IsRead s)
 unfolding asked_of
@@ -82,11 +86,11 @@ asked_of-read s line headed = ok_holds (IsRead s) (text_of line) _ (λ text. ask
 
 -- the space is that after the operations, none is open above the first, and no operation is above the header
 pub record Made (s : Session) : Type 0 where
-  pub space : space_of s ≡ after_operations (opened_by s.so_far) s.so_far.lines
+  pub space : session_space s ≡ after_operations (opened_by s.so_far) s.so_far.lines
   pub unopened : s.so_far.lines ≡ [] → s.opened ≡ None
   pub headed : s.count ≡ 0 → s.so_far.lines ≡ []
 
-pub begun_made : Made begun
+pub begun_made : Made session_begun
 begun_made = record { space = refl; unopened = λ _. refl; headed = λ _. refl }
 
 -- the space of a configuration without an area
@@ -153,22 +157,22 @@ refused_made s cause made =
 headed_next : (s : Session) → Made s → s.count + 1 ≡ 1 → s.so_far.lines ≡ []
 headed_next s made first = made.headed (omega (arith, first))
 
-pub answered_made : (s : Session) (text : List ℕ) → Made s → Made (answered s text).session
-unfolding answered
+pub answered_made : (s : Session) (text : List ℕ) → Made s → Made (line_answer s text).session
+unfolding line_answer
 answered_made s text made =
     by_reading (asked_of s.so_far (raw_line (s.count + 1) 0 text true)) (asked_of-read s.so_far (raw_line (s.count + 1) 0 text true) (headed_next s made))
   where
-    by_reading : (r : Result (Asked × SoFar) Cause) → IfOk r (IsRead s.so_far) → Made (answer_by s r).session
+    by_reading : (r : Result (Asked × SoFar) Cause) → IfOk r (IsRead s.so_far) → Made (session_answer s r).session
     by_reading (Ok read) is = read_made s read.0 read.1 made is
     by_reading (Err cause) is = refused_made s cause made
 
 made_after : (s : Session) (lines : List (List ℕ)) → Made s → Made (session_after s lines)
 made_after s [] made = made
-made_after s (line ∷ lines) made = made_after (answered s line).session lines (answered_made s line made)
+made_after s (line ∷ lines) made = made_after (line_answer s line).session lines (answered_made s line made)
 
 pub space_made : (lines : List (List ℕ))
-    → space_of (session_after begun lines) ≡ after_operations (opened_by (session_after begun lines).so_far) (session_after begun lines).so_far.lines
-space_made lines = (made_after begun lines begun_made).space
+    → session_space (session_after session_begun lines) ≡ after_operations (opened_by (session_after session_begun lines).so_far) (session_after session_begun lines).so_far.lines
+space_made lines = (made_after session_begun lines begun_made).space
 
 -- ---- an operation is answered by its item
 
@@ -199,16 +203,16 @@ operation_printed config before line now is =
       printed = ap (λ (o : Opened). operation_text o line) is ∙ ap (λ (c : Config). item_text c.files line (item_at [] line c there)) (config_stays (opened_as config) before);
     }
 
-answer_text : (s : Session) (text : List ℕ) (read : Asked × SoFar) → read_at s text ≡ Ok read → (answered s text).text ≡ (answer_by s (Ok read)).text
-unfolding answered
-answer_text s text read is = ap (λ (r : Result (Asked × SoFar) Cause). (answer_by s r).text) is
+answer_text : (s : Session) (text : List ℕ) (read : Asked × SoFar) → line_asks s text ≡ Ok read → (line_answer s text).text ≡ (session_answer s (Ok read)).text
+unfolding line_answer
+answer_text s text read is = ap (λ (r : Result (Asked × SoFar) Cause). (session_answer s r).text) is
 
-is_read : (s : Session) (text : List ℕ) (read : Asked × SoFar) → Made s → read_at s text ≡ Ok read → IsRead s.so_far read
+is_read : (s : Session) (text : List ℕ) (read : Asked × SoFar) → Made s → line_asks s text ≡ Ok read → IsRead s.so_far read
 is_read s text read made is =
     subst (λ (r : Result (Asked × SoFar) Cause). IfOk r (IsRead s.so_far)) is (asked_of-read s.so_far (raw_line (s.count + 1) 0 text true) (headed_next s made))
 
-printed_of : (s : Session) (text : List ℕ) (line : TraceLine) (after : SoFar) → Made s → read_at s text ≡ Ok (asks.Operation line, after)
-    → (after.lines ≡ s.so_far.lines ++ line ∷ []) × IsTextOfItem (config_of after) s.so_far.lines line (answered s text).text
+printed_of : (s : Session) (text : List ℕ) (line : TraceLine) (after : SoFar) → Made s → line_asks s text ≡ Ok (asks.Operation line, after)
+    → (after.lines ≡ s.so_far.lines ++ line ∷ []) × IsTextOfItem (config_of after) s.so_far.lines line (line_answer s text).text
 printed_of s text line after made is =
     let read = is_read s text (asks.Operation line, after) made is in
     let now : unwrap_or s.opened (opened_by after) ≡ after_operations (opened_by after) s.so_far.lines =
@@ -219,14 +223,14 @@ printed_of s text line after made is =
     )
 
 -- a read of the list at this space
-maps_printed : (line : TraceLine) (now : Opened) → line.op ≡ Maps → start_text line now.version ++ maps_text now.config.files now.space.areas ≡ operation_text now line
-unfolding call_of content_text start_text
-maps_printed line now is = subst (λ (op : Op). start_text line now.version ++ maps_text now.config.files now.space.areas
+maps_printed : (line : TraceLine) (now : Opened) → line.op ≡ Maps → item_start line now.version ++ maps_text now.config.files now.space.areas ≡ operation_text now line
+unfolding call_made content_text item_start
+maps_printed line now is = subst (λ (op : Op). item_start line now.version ++ maps_text now.config.files now.space.areas
     ≡ item_text now.config.files (record { number = line.number; thread = line.thread; op = op; after = line.after })
     (record { caller = 0; version = version_after now.config now.space now.version op; content = answer_of now.config now.space op })) (sym is) refl
 
-maps_printed_of : (s : Session) (text : List ℕ) (line : TraceLine) (after : SoFar) → Made s → read_at s text ≡ Ok (asks.Areas line, after)
-    → IsTextOfItem (config_of after) s.so_far.lines line (answered s text).text
+maps_printed_of : (s : Session) (text : List ℕ) (line : TraceLine) (after : SoFar) → Made s → line_asks s text ≡ Ok (asks.Areas line, after)
+    → IsTextOfItem (config_of after) s.so_far.lines line (line_answer s text).text
 maps_printed_of s text line after made is =
     let read = is_read s text (asks.Areas line, after) made is in
     let now : unwrap_or s.opened (opened_by after) ≡ after_operations (opened_by after) s.so_far.lines =
@@ -236,15 +240,15 @@ maps_printed_of s text line after made is =
     (operation_printed (config_of after) s.so_far.lines line (unwrap_or s.opened (opened_by after)) now)
 
 pub operations_printed : (lines : List (List ℕ)) (text : List ℕ) (line : TraceLine) (after : SoFar)
-    → read_at (session_after begun lines) text ≡ Ok (asks.Operation line, after)
-    → (after.lines ≡ (session_after begun lines).so_far.lines ++ line ∷ [])
-    × IsTextOfItem (config_of after) (session_after begun lines).so_far.lines line (answered (session_after begun lines) text).text
-operations_printed lines text line after is = printed_of (session_after begun lines) text line after (made_after begun lines begun_made) is
+    → line_asks (session_after session_begun lines) text ≡ Ok (asks.Operation line, after)
+    → (after.lines ≡ (session_after session_begun lines).so_far.lines ++ line ∷ [])
+    × IsTextOfItem (config_of after) (session_after session_begun lines).so_far.lines line (line_answer (session_after session_begun lines) text).text
+operations_printed lines text line after is = printed_of (session_after session_begun lines) text line after (made_after session_begun lines begun_made) is
 
 pub lists_printed : (lines : List (List ℕ)) (text : List ℕ) (line : TraceLine) (after : SoFar)
-    → read_at (session_after begun lines) text ≡ Ok (asks.Areas line, after)
-    → IsTextOfItem (config_of after) (session_after begun lines).so_far.lines line (answered (session_after begun lines) text).text
-lists_printed lines text line after is = maps_printed_of (session_after begun lines) text line after (made_after begun lines begun_made) is
+    → line_asks (session_after session_begun lines) text ≡ Ok (asks.Areas line, after)
+    → IsTextOfItem (config_of after) (session_after session_begun lines).so_far.lines line (line_answer (session_after session_begun lines) text).text
+lists_printed lines text line after is = maps_printed_of (session_after session_begun lines) text line after (made_after session_begun lines begun_made) is
 
 -- `serial` has the same items
 pub gathered : (config : Config) (lines : List TraceLine) → serial_history config lines ≡ gather (items_made config lines)

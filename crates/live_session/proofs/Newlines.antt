@@ -7,9 +7,9 @@ use Rattle.std.proofs.lemmas.List.Elements.{All-append}
 use Rattle.memchr.specs.Find.{IsFirstByte, is_byte}
 use Rattle.text_lexer.specs.Lines.{is_newline}
 use Rattle.live_session.specs.declared.held.TheConstants.{MOST_KEPT, PIECE}
-use Rattle.live_session.specs.Internal.Held.{HasLine, HasNoNewline, IsHeld, kept}
+use Rattle.live_session.specs.Internal.Held.{HasNewlineAt, HasNoNewline, AreBytesHeld, kept}
 
-pub found_line : (bytes : List ℕ) (found : Option ℕ) → IsFirstByte (is_byte 10) bytes found → MatchOption found (HasNoNewline bytes) (HasLine bytes)
+pub found_line : (bytes : List ℕ) (found : Option ℕ) → IsFirstByte (is_byte 10) bytes found → MatchOption found (HasNoNewline bytes) (HasNewlineAt bytes)
 found_line bytes None nowhere = λ k d below.
     ap is_newline (get_or_default_zero bytes k d below) ∙ false_from_ne_true _ (nowhere k (omega arith) below)
 found_line bytes (Some len) first = record {
@@ -27,7 +27,7 @@ none_all bytes n front rest = subst HasNoNewline (take-append-drop n bytes)
     (All-append (λ c. is_newline c ≡ false) (take n bytes) (drop n bytes) front rest)
 
 -- or the first is found in the rest
-pub line_behind : (bytes : List ℕ) (n len : ℕ) → HasNoNewline (take n bytes) → HasLine (drop n bytes) len → HasLine bytes (n + len)
+pub line_behind : (bytes : List ℕ) (n len : ℕ) → HasNoNewline (take n bytes) → HasNewlineAt (drop n bytes) len → HasNewlineAt bytes (n + len)
 line_behind bytes n len front has =
     let parts : take (n + len) bytes ≡ take n bytes ++ take len (drop n bytes) =
     sym (take-append-drop n (take (n + len) bytes))
@@ -41,7 +41,7 @@ line_behind bytes n len front has =
 
 -- a search behind what was searched
 pub found_behind : (bytes : List ℕ) (n : ℕ) (found : Option ℕ) → HasNoNewline (take n bytes) → IsFirstByte (is_byte 10) (drop n bytes) found
-    → MatchOption found (HasNoNewline bytes) (λ len. HasLine bytes (n + len))
+    → MatchOption found (HasNoNewline bytes) (λ len. HasNewlineAt bytes (n + len))
 found_behind bytes n None front nowhere = none_all bytes n front (found_line (drop n bytes) None nowhere)
 found_behind bytes n (Some len) front first = line_behind bytes n len front (found_line (drop n bytes) (Some len) first)
 
@@ -60,7 +60,7 @@ kept_rest bytes new at count within is cut =
     ∙ ap (λ (n : ℕ). take n (drop at bytes)) is ∙ take_min MOST_KEPT (drop at bytes)
 
 pub kept_held : (bytes new : List ℕ) (at count : ℕ) → at ≤ length bytes → count ≡ min MOST_KEPT (length (drop at bytes)) → new ≡ take (at + count) bytes
-    → HasNoNewline (drop at bytes) → length bytes ≤ MOST_KEPT + PIECE → IsHeld new at count
+    → HasNoNewline (drop at bytes) → length bytes ≤ MOST_KEPT + PIECE → AreBytesHeld new at count
 kept_held bytes new at count within is cut none few =
     let fits : at + count ≤ length bytes = omega (arith, is, length-drop at bytes) in
     let long : length new ≡ at + count = ap length cut ∙ length-take-le (at + count) bytes fits in

@@ -1,5 +1,5 @@
 -- Serves `laws.rt`: no line of a trace without forks is a line that a session has of its own.
-use Rattle.std.proofs.Common.{◌≡◌, ◌+◌, ◌-◌, ◌<◌, ◌∙◌, ◌||◌, ℕ, zero, suc, Bool, true, false, not, nat_eq, nat_lt, List, [], ◌∷◌, ◌++◌, length, take, codes, bytes_eq, Option, Some, None, is_some, Result, Ok, Err, ok_or, IfOk, if◌then◌else◌, refl, sym, ap, subst, inl, inr, arith}
+use Rattle.std.proofs.Common.{◌≡◌, ◌+◌, ◌-◌, ◌<◌, ◌∙◌, ◌||◌, ◌&&◌, ◌⊎◌, ℕ, zero, suc, Bool, true, false, not, nat_eq, nat_lt, List, [], ◌∷◌, ◌++◌, length, take, codes, bytes_eq, Option, Some, None, is_some, Result, Ok, Err, ok_or, IfOk, if◌then◌else◌, refl, sym, ap, subst, inl, inr, arith}
 use Rattle.std.specs.List.{cons_option}
 use Rattle.std.specs.Char.{is_ascii_digit}
 use Rattle.std.specs.Str.{byte, is_utf8}
@@ -16,13 +16,13 @@ use Rattle.text_lexer.specs.Words.{words_of, is_comment, begins_with_digit}
 use Rattle.trace_reader.specs.declared.trace.Op.{Op}
 use Rattle.trace_reader.specs.declared.trace.Op.TheVariants as ops
 use Rattle.trace_reader.specs.declared.trace.TraceLine.{TraceLine}
-use Rattle.trace_reader.specs.Fields.{thread_of}
-use Rattle.trace_reader.specs.Lines.{SoFar, version_of, with_header, names_rightly, forks_rightly, is_full, with_one, with_line, after_setting, after_words, after_text, after_line}
-use Rattle.trace_reader.specs.Operations.{fork_of, op_named, op_of, note_of, without_note, line_named, op_has_its_new, line_of}
+use Rattle.trace_reader.specs.Fields.{read_thread}
+use Rattle.trace_reader.specs.Lines.{SoFar, read_version, with_header, names_rightly, forks_rightly, is_full, with_one, with_line, after_setting, after_words, after_text, after_trace_line}
+use Rattle.trace_reader.specs.Operations.{read_fork, op_named, read_op, read_note, without_note, line_named, op_has_its_new, read_line}
 use Rattle.trace_reader.specs.Values.{child_of, children_of}
 use Rattle.live_session.specs.declared.asking.Asked.{Asked}
 use Rattle.live_session.specs.declared.asking.Asked.TheVariants as asks
-use Rattle.live_session.specs.Asking.{added, asked_by_words, asked_of, is_new, list_read, own_line, own_operation, own_or, query_of}
+use Rattle.live_session.specs.Asking.{asked_line, added_or, asked_by_words, asked_of, is_fork_line, is_new, is_query_line, list_read, query_of}
 
 -- ---- the text of a line does not depend on where it stands
 
@@ -63,17 +63,17 @@ tested_unended : (long good : Bool) (text : List ℕ)
 tested_unended true good text = (TooLong, refl)
 tested_unended false good text = (NoEnd, refl)
 
-pub unended_bad : (s : SoFar) (number start : ℕ) (text : List ℕ) → (cause : Cause) × (after_line s (raw_line number start text false) ≡ Err cause)
-unfolding after_line text_within
+pub unended_bad : (s : SoFar) (number start : ℕ) (text : List ℕ) → (cause : Cause) × (after_trace_line s (raw_line number start text false) ≡ Err cause)
+unfolding after_trace_line text_within
 unended_bad s number start text =
     let line : RawLine = raw_line number start text false in
     let bad = tested_unended (is_longer_than LINE_LIMIT input_limit line) (is_utf8 text) text in
     (bad.0, ap (λ (r : Result (List ℕ) Cause). r >>= λ t. after_text s number t (words_of t)) bad.1)
 
 -- what a line leaves at an offset it leaves at none, by its words
-line_read : (s after : SoFar) (number start : ℕ) (text : List ℕ) → after_line s (raw_line number start text true) ≡ Ok after
+line_read : (s after : SoFar) (number start : ℕ) (text : List ℕ) → after_trace_line s (raw_line number start text true) ≡ Ok after
     → (text_of (raw_line number 0 text true) ≡ Ok text) × (after_text s number text (words_of text) ≡ Ok after)
-unfolding after_line
+unfolding after_trace_line
 line_read s after number start text is = by_text (text_of (raw_line number start text true)) refl is
   where
     by_text : (r : Result (List ℕ) Cause) → text_of (raw_line number start text true) ≡ r → (r >>= λ t. after_text s number t (words_of t)) ≡ Ok after
@@ -88,29 +88,29 @@ line_read s after number start text is = by_text (text_of (raw_line number start
 abbrev IsFork : Op → Type 0
 IsFork op = is_some (child_of op) ≡ true
 
-fork_of-forks : (words : List (List ℕ)) → IfOk (fork_of words) IsFork
-unfolding fork_of
-fork_of-forks (child ∷ []) = by_thread (ok_or (thread_of child) Number)
+fork_of-forks : (words : List (List ℕ)) → IfOk (read_fork words) IsFork
+unfolding read_fork
+fork_of-forks (child ∷ []) = by_thread (ok_or (read_thread child) Number)
   where
     by_thread : (r : Result ℕ Cause) → IfOk (r >>= λ c. Ok (ops.Fork c)) IsFork
     by_thread (Ok c) = refl
     by_thread (Err c) = tt
 fork_of-forks _ = tt
 
-fork_named : (words : List (List ℕ)) → IfOk (op_of (codes "fork" ∷ words)) IsFork
-unfolding op_of op_named
+fork_named : (words : List (List ℕ)) → IfOk (read_op (codes "fork" ∷ words)) IsFork
+unfolding read_op op_named
 fork_named words = fork_of-forks words
 
-some_words : (count : ℕ) (words : List (List ℕ)) → 0 < count → IfOk (op_of (take count (codes "fork" ∷ words))) IsFork
+some_words : (count : ℕ) (words : List (List ℕ)) → 0 < count → IfOk (read_op (take count (codes "fork" ∷ words))) IsFork
 some_words zero words some = absurd (omega arith)
 some_words (suc count) words some = fork_named (take count words)
 
-fork_op : (words : List (List ℕ)) → IfOk (op_of (without_note (codes "fork" ∷ words))) IsFork
-unfolding without_note note_of
+fork_op : (words : List (List ℕ)) → IfOk (read_op (without_note (codes "fork" ∷ words))) IsFork
+unfolding without_note read_note
 fork_op [] = fork_named []
 fork_op (word ∷ words) =
-    cond_both (is_some (note_of (codes "fork" ∷ word ∷ words))) (take (length (codes "fork" ∷ word ∷ words) - 1) (codes "fork" ∷ word ∷ words))
-    (codes "fork" ∷ word ∷ words) (λ (some : List (List ℕ)). IfOk (op_of some) IsFork)
+    cond_both (is_some (read_note (codes "fork" ∷ word ∷ words))) (take (length (codes "fork" ∷ word ∷ words) - 1) (codes "fork" ∷ word ∷ words))
+    (codes "fork" ∷ word ∷ words) (λ (some : List (List ℕ)). IfOk (read_op some) IsFork)
     (λ _. some_words (length (codes "fork" ∷ word ∷ words) - 1) (word ∷ words) (omega arith)) (λ _. fork_named (word ∷ words))
 
 fork_parts : (number : ℕ) (thread : Result ℕ Cause) (op : Result Op Cause) (after : Result (Option ℕ) Cause) (words : List (List ℕ)) → IfOk op IsFork
@@ -123,10 +123,10 @@ fork_parts number (Ok t) (Ok o) (Ok a) words is = cond_both (op_has_its_new o wo
     (Ok (record { number = number; thread = t; op = o; after = a })) (Err Arity)
     (λ (r : Result TraceLine Cause). IfOk r (λ line. IsFork line.op)) (λ _. is) (λ _. tt)
 
-fork_line : (number : ℕ) (first : List ℕ) (words : List (List ℕ)) → IfOk (line_of number first (codes "fork" ∷ words)) (λ line. IsFork line.op)
-unfolding line_of
-fork_line number first words = fork_parts number (ok_or (thread_of first) Thread) (op_of (without_note (codes "fork" ∷ words)))
-    (line_named (note_of (codes "fork" ∷ words))) (without_note (codes "fork" ∷ words)) (fork_op words)
+fork_line : (number : ℕ) (first : List ℕ) (words : List (List ℕ)) → IfOk (read_line number first (codes "fork" ∷ words)) (λ line. IsFork line.op)
+unfolding read_line
+fork_line number first words = fork_parts number (ok_or (read_thread first) Thread) (read_op (without_note (codes "fork" ∷ words)))
+    (line_named (read_note (codes "fork" ∷ words))) (without_note (codes "fork" ∷ words)) (fork_op words)
 
 -- of lines without a child neither the last nor those before it have one
 pub children_front : (lines more : List TraceLine) → children_of (lines ++ more) ≡ [] → (children_of lines ≡ []) × (children_of more ≡ [])
@@ -171,9 +171,9 @@ forked : (s after : SoFar) (number : ℕ) (text first : List ℕ) (words : List 
     → after_words s number text (first ∷ codes "fork" ∷ words) ≡ Ok after → children_of after.lines ≡ [] → ⊥
 unfolding after_words
 forked s after number text first words digit is none =
-    let line : Result SoFar Cause = line_of number first (codes "fork" ∷ words) >>= λ line. with_line s line in
+    let line : Result SoFar Cause = read_line number first (codes "fork" ∷ words) >>= λ line. with_line s line in
     let other : Result SoFar Cause = after_setting s text first (codes "fork" ∷ words) in
-    fork_added s after (line_of number first (codes "fork" ∷ words)) (fork_line number first words)
+    fork_added s after (read_line number first (codes "fork" ∷ words)) (fork_line number first words)
     (subst (λ (b : Bool). (if b then line else other) ≡ Ok after) digit
     (subst (λ (b : Bool). (if b then Ok s else (if begins_with_digit first then line else other)) ≡ Ok after) (digit_first first digit) is)) none
 
@@ -200,27 +200,39 @@ not_first s after number text first word words bad good = elim (cases_Bool (byte
   | inr other ↦ other
 ]
 
-no_own_operation : (s after : SoFar) (number : ℕ) (text first : List ℕ) (words : List (List ℕ)) → begins_with_digit first ≡ true
-    → after_words s number text (first ∷ words) ≡ Ok after → children_of after.lines ≡ [] → own_operation words ≡ None
-unfolding own_operation
-no_own_operation s after number text first [] digit is none = refl
-no_own_operation s after number text first (name ∷ words) digit is none = elim (cases_Bool (bytes_eq name (codes "fork"))) [
-  | inl same ↦ absurd (forked s after number text first words digit
-      (subst (λ (w : List ℕ). after_words s number text (first ∷ w ∷ words) ≡ Ok after) ((bytes_eq-Decides name (codes "fork")).0 same) is) none)
-  | inr other ↦ ap (λ (b : Bool). if b then Some (Err Child) else None) other
-]
+-- below the header a line of a trace without forks forks nothing
+and_false : (a b : Bool) → b ≡ false → (a && b) ≡ false
+and_false true b is = is
+and_false false b is = refl
 
--- below the header a line of a trace without forks is no own line
+no_fork : (s after : SoFar) (number : ℕ) (text : List ℕ) (words : List (List ℕ)) → after_words s number text words ≡ Ok after
+    → children_of after.lines ≡ [] → is_fork_line number words ≡ false
+unfolding is_fork_line
+no_fork s after number text [] is none = refl
+no_fork s after number text (first ∷ []) is none = refl
+no_fork s after number text (first ∷ name ∷ words) is none = by_name (cases_Bool (bytes_eq name (codes "fork"))) (cases_Bool (begins_with_digit first))
+  where
+    by_name : (bytes_eq name (codes "fork") ≡ true) ⊎ (bytes_eq name (codes "fork") ≡ false)
+        → (begins_with_digit first ≡ true) ⊎ (begins_with_digit first ≡ false)
+        → (nat_lt 1 number && begins_with_digit first && bytes_eq name (codes "fork")) ≡ false
+    by_name (inl same) (inl digit) = absurd (forked s after number text first words digit
+        (subst (λ (w : List ℕ). after_words s number text (first ∷ w ∷ words) ≡ Ok after) ((bytes_eq-Decides name (codes "fork")).0 same) is) none)
+    by_name (inl same) (inr other) = ap (λ (b : Bool). b && bytes_eq name (codes "fork")) (and_false (nat_lt 1 number) (begins_with_digit first) other)
+    by_name (inr other) digit = and_false (nat_lt 1 number && begins_with_digit first) (bytes_eq name (codes "fork")) other
+
+-- a line of a trace without forks is no line that a session has of its own
+abbrev IsNotOwn : ℕ → List (List ℕ) → Type 0
+IsNotOwn number words = (is_new words ≡ false) × (is_query_line number words ≡ false) × (is_fork_line number words ≡ false)
+
 no_own_line : (s after : SoFar) (number : ℕ) (text : List ℕ) (words : List (List ℕ)) → after_words s number text words ≡ Ok after
-    → children_of after.lines ≡ [] → (is_new words ≡ false) × (own_line words ≡ None)
-unfolding is_new own_line
-no_own_line s after number text [] is none = (refl, refl)
+    → children_of after.lines ≡ [] → IsNotOwn number words
+unfolding is_new is_query_line
+no_own_line s after number text [] is none = (refl, refl, no_fork s after number text [] is none)
 no_own_line s after number text (first ∷ words) is none = (
   not_new words (not_first s after number text first (codes "new") words (new_refused s number text words) is),
-  ap (λ (b : Bool). if b then Some (query_of words) else (if begins_with_digit first then own_operation words else None))
-      (not_first s after number text first (codes "query") words (query_refused s number text words) is)
-      ∙ cond_both (begins_with_digit first) (own_operation words) None (λ (o : Option (Result Asked Cause)). o ≡ None)
-      (λ digit. no_own_operation s after number text first words digit is none) (λ _. refl),
+  and_false (nat_lt 1 number) (bytes_eq first (codes "query"))
+      (not_first s after number text first (codes "query") words (query_refused s number text words) is),
+  no_fork s after number text (first ∷ words) is none,
 )
   where
     not_new : (words : List (List ℕ)) → bytes_eq first (codes "new") ≡ false → is_new (first ∷ words) ≡ false
@@ -229,38 +241,45 @@ no_own_line s after number text (first ∷ words) is none = (
 
 -- nor is the header
 header_words : (s after : SoFar) (words : List (List ℕ)) → with_header s words ≡ Ok after → is_new words ≡ false
-unfolding with_header version_of is_new
+unfolding with_header read_version is_new
 header_words s after [] is = refl
 header_words s after (word ∷ []) is = absurd cc
 header_words s after (word ∷ next ∷ words) is = refl
 
+header_alone : (words : List (List ℕ)) → (is_query_line 1 words ≡ false) × (is_fork_line 1 words ≡ false)
+unfolding is_query_line is_fork_line
+header_alone [] = (refl, refl)
+header_alone (first ∷ []) = (refl, refl)
+header_alone (first ∷ name ∷ words) = (refl, refl)
+
 no_own_words : (s after : SoFar) (number : ℕ) (text : List ℕ) (words : List (List ℕ)) → after_text s number text words ≡ Ok after
-    → children_of after.lines ≡ [] → (is_new words ≡ false) × ((if nat_lt 1 number then own_line words else None) ≡ None)
+    → children_of after.lines ≡ [] → IsNotOwn number words
 no_own_words s after number text words is none = by_number (nat_eq number 1) refl is
   where
     by_number : (b : Bool) → nat_eq number 1 ≡ b → (if b then with_header s words else after_words s number text words) ≡ Ok after
-        → (is_new words ≡ false) × ((if nat_lt 1 number then own_line words else None) ≡ None)
-    by_number true first same = (
-      header_words s after words same,
-      ap (λ (n : ℕ). if nat_lt 1 n then own_line words else None) (eqb-true number 1 first),
-    )
-    by_number false below same =
-        let no = no_own_line s after number text words same none in
-        (no.0, cond_both (nat_lt 1 number) (own_line words) None (λ (o : Option (Result Asked Cause)). o ≡ None) (λ _. no.1) (λ _. refl))
+        → IsNotOwn number words
+    by_number true first same =
+        let no = subst (λ (n : ℕ). (is_query_line n words ≡ false) × (is_fork_line n words ≡ false)) (sym (eqb-true number 1 first)) (header_alone words) in
+        (header_words s after words same, no.0, no.1)
+    by_number false below same = no_own_line s after number text words same none
 
 -- ---- what such a line asks for
 
-pub asked_as_read : (s after : SoFar) (number start : ℕ) (text : List ℕ) → after_line s (raw_line number start text true) ≡ Ok after
-    → children_of after.lines ≡ [] → asked_of s (raw_line number 0 text true) ≡ Ok (added s after)
-unfolding asked_of asked_by_words after_line
+pub asked_as_read : (s after : SoFar) (number start : ℕ) (text : List ℕ) → after_trace_line s (raw_line number start text true) ≡ Ok after
+    → children_of after.lines ≡ [] → asked_of s (raw_line number 0 text true) ≡ Ok (asked_line s after)
+unfolding asked_of asked_by_words after_trace_line
 asked_as_read s after number start text is none =
     let line : RawLine = raw_line number 0 text true in
+    let words : List (List ℕ) = words_of text in
     let parts = line_read s after number start text is in
-    let no = no_own_words s after number text (words_of text) parts.1 none in
-    let read : after_line s line ≡ Ok after = ap (λ (r : Result (List ℕ) Cause). r >>= λ t. after_text s number t (words_of t)) parts.0 ∙ parts.1 in
-    let own : Option (Result Asked Cause) = if nat_lt 1 number then own_line (words_of text) else None in
-    let list : Option (Result Asked Cause) = list_read number (words_of text) in
+    let no = no_own_words s after number text words parts.1 none in
+    let read : after_trace_line s line ≡ Ok after = ap (λ (r : Result (List ℕ) Cause). r >>= λ t. after_text s number t (words_of t)) parts.0 ∙ parts.1 in
+    let of_trace : Result (Asked × SoFar) Cause = added_or (list_read number words) s (after_trace_line s line) in
+    let of_fork : Bool → Result (Asked × SoFar) Cause = λ b. if b then Err Child else of_trace in
+    let of_query : Bool → Result (Asked × SoFar) Cause =
+    λ b. if b then (query_of words >>= λ address. Ok (asks.Query address, s)) else of_fork (is_fork_line number words) in
     ap (λ (r : Result (List ℕ) Cause). r >>= λ t. asked_by_words s line (words_of t)) parts.0
-    ∙ ap (λ (b : Bool). if b then Ok (asks.New, s) else own_or own list s (after_line s line)) no.0
-    ∙ ap (λ (o : Option (Result Asked Cause)). own_or o list s (after_line s line)) no.1
-    ∙ ap (own_or None list s) read
+    ∙ ap (λ (b : Bool). if b then Ok (asks.New, s) else of_query (is_query_line number words)) no.0
+    ∙ ap of_query no.1
+    ∙ ap of_fork no.2
+    ∙ ap (added_or (list_read number words) s) read

@@ -3,20 +3,20 @@ use Rattle.std.proofs.Common.{◌≡◌, ◌+◌, ◌-◌, ◌<◌, ◌∙◌, �
 use Rattle.std.proofs.lemmas.List.{drop_more, get_or-append_right}
 use Rattle.std.proofs.lemmas.List.Splits.{slice_split_at, slice_split_none, length-slice_split}
 use Rattle.text_lexer.specs.Lines.{is_newline}
-use Rattle.live_session.specs.Sessions.{Session, pieces_of, whole_lines, answered, answers, session_after}
-use Rattle.live_session.specs.Internal.Held.{HasLine, HasNoNewline}
+use Rattle.live_session.specs.Sessions.{Session, pieces_of, whole_lines, line_answer, answers, session_after}
+use Rattle.live_session.specs.Internal.Held.{HasNewlineAt, HasNoNewline}
 
 -- ---- answers to lines one after another
 
 pub answers-append : (s : Session) (xs ys : List (List ℕ)) → answers s (xs ++ ys) ≡ answers s xs ++ answers (session_after s xs) ys
 answers-append s [] ys = refl
 answers-append s (x ∷ xs) ys =
-    ap (λ (t : List ℕ). (answered s x).text ++ t) (answers-append (answered s x).session xs ys)
-    ∙ sym (append_assoc (answered s x).text (answers (answered s x).session xs) (answers (session_after (answered s x).session xs) ys))
+    ap (λ (t : List ℕ). (line_answer s x).text ++ t) (answers-append (line_answer s x).session xs ys)
+    ∙ sym (append_assoc (line_answer s x).text (answers (line_answer s x).session xs) (answers (session_after (line_answer s x).session xs) ys))
 
 pub session_after-append : (s : Session) (xs ys : List (List ℕ)) → session_after s (xs ++ ys) ≡ session_after (session_after s xs) ys
 session_after-append s [] ys = refl
-session_after-append s (x ∷ xs) ys = session_after-append (answered s x).session xs ys
+session_after-append s (x ∷ xs) ys = session_after-append (line_answer s x).session xs ys
 
 -- ---- the pieces of bytes
 
@@ -46,7 +46,7 @@ last_of lines rest =
     ∙ ap (λ (n : ℕ). get_or (rest ∷ []) n []) none
 
 -- a first line, and what follows it
-pub line_cut : (bytes more : List ℕ) (len : ℕ) → HasLine bytes len
+pub line_cut : (bytes more : List ℕ) (len : ℕ) → HasNewlineAt bytes len
     → pieces_of (bytes ++ more) ≡ take len bytes ∷ pieces_of (drop (len + 1) bytes ++ more)
 line_cut bytes more len has =
     let parts : bytes ≡ take len bytes ++ 10 ∷ drop (len + 1) bytes = line_parts bytes len has in
@@ -54,7 +54,7 @@ line_cut bytes more len has =
     ∙ ap pieces_of (append_assoc (take len bytes) (10 ∷ drop (len + 1) bytes) more)
     ∙ slice_split_at is_newline (take len bytes) 10 (drop (len + 1) bytes ++ more) has.single refl
   where
-    line_parts : (bytes : List ℕ) (len : ℕ) → HasLine bytes len → bytes ≡ take len bytes ++ 10 ∷ drop (len + 1) bytes
+    line_parts : (bytes : List ℕ) (len : ℕ) → HasNewlineAt bytes len → bytes ≡ take len bytes ++ 10 ∷ drop (len + 1) bytes
     line_parts bytes len has =
         sym (take-append-drop len bytes) ∙ ap (λ (l : List ℕ). take len bytes ++ l)
         (drop_more bytes len 0 has.within ∙ ap (λ (c : ℕ). c ∷ drop (len + 1) bytes) has.newline)

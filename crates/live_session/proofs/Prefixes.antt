@@ -3,7 +3,7 @@ use Rattle.std.proofs.Common.{◌≡◌, ◌-◌, ◌<◌, ◌∙◌, ℕ, Bool,
 use Rattle.std.specs.List.{onto_first}
 use Rattle.std.proofs.lemmas.List.Splits.{slice_split-cons_yes, slice_split-cons_no, length-slice_split}
 use Rattle.text_lexer.specs.Lines.{is_newline}
-use Rattle.live_session.specs.Sessions.{begun, pieces_of, whole_lines, last_piece, answers, session_after, answers_of, session_text, ending_text}
+use Rattle.live_session.specs.Sessions.{session_begun, pieces_of, whole_lines, last_piece, answers, session_after, answers_of, session_text, ending_text}
 use Rattle.live_session.proofs.Pieces.{answers-append, cut_whole, some_pieces, whole_lines-cut}
 
 -- a list with an element is the first ones and a last one
@@ -89,11 +89,11 @@ unfolding answers_of
 answers-stay input more =
     let cut = ended_pieces (pieces_of input) (some_pieces input) in
     let others : List (List ℕ) = whole_lines (cut.last ++ more) in (
-      answers (session_after begun cut.front) others,
-      ap (answers begun) (lines_more input more cut.front cut.last cut.is) ∙ answers-append begun cut.front others
-          ∙ ap (λ (l : List (List ℕ)). answers begun l ++ answers (session_after begun cut.front) others) (sym (whole_lines-cut input cut.front cut.last cut.is)),
+      answers (session_after session_begun cut.front) others,
+      ap (answers session_begun) (lines_more input more cut.front cut.last cut.is) ∙ answers-append session_begun cut.front others
+          ∙ ap (λ (l : List (List ℕ)). answers session_begun l ++ answers (session_after session_begun cut.front) others) (sym (whole_lines-cut input cut.front cut.last cut.is)),
     )
 
 pub session_text-begins : (input : List ℕ) → (rest : List ℕ) × (session_text input ≡ answers_of input ++ rest)
 unfolding session_text
-session_text-begins input = (ending_text (session_after begun (whole_lines input)) (last_piece input), refl)
+session_text-begins input = (ending_text (session_after session_begun (whole_lines input)) (last_piece input), refl)

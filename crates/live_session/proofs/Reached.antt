@@ -1,5 +1,5 @@
 -- Serves `answering.rt` and `conversing.rt`: what holds of every session that lines lead to.
-use Rattle.std.proofs.Common.{◌≡◌, ◌+◌, ◌-◌, ◌^◌, ◌<◌, ◌≤◌, ◌⊎◌, ℕ, true, nat_eq, nat_lt, List, [], ◌∷◌, length, codes, bytes_eq, slice_get, Option, Some, None, unwrap_or, Result, Ok, Err, ok_or, IfOk, IfSome, if◌then◌else◌, refl, sym, subst, inl, inr, arith, length-append, lit≤}
+use Rattle.std.proofs.Common.{◌≡◌, ◌+◌, ◌-◌, ◌^◌, ◌<◌, ◌≤◌, ◌⊎◌, ℕ, true, nat_eq, nat_lt, List, [], ◌∷◌, length, codes, bytes_eq, slice_get, Option, Some, None, option_map, unwrap_or, Result, Ok, Err, ok_or, IfOk, IfSome, refl, sym, subst, inl, inr, arith, length-append, lit≤}
 use Rattle.std.proofs.lemmas.Bool.{cond_both, ltb-false}
 use Rattle.std.proofs.lemmas.Option.{slice_get_within}
 use Rattle.mm_types.specs.declared.config.Config.{Config}
@@ -10,7 +10,7 @@ use Rattle.area_rules.specs.Steps.{opening}
 use Rattle.area_rules.specs.Tables.{AddressSpace}
 use Rattle.area_rules.proofs.Stepping.{step_objects}
 use Rattle.text_lexer.specs.declared.error.Cause.{Cause}
-use Rattle.text_lexer.specs.declared.error.Cause.TheVariants.{Header, Thread, TooMany, Child}
+use Rattle.text_lexer.specs.declared.error.Cause.TheVariants.{Header, TooMany, Child}
 use Rattle.text_lexer.specs.Causes.{◌>>=◌}
 use Rattle.text_lexer.specs.Lines.{RawLine, raw_line, text_of}
 use Rattle.text_lexer.specs.Numbers.{number}
@@ -20,19 +20,19 @@ use Rattle.trace_reader.specs.declared.builder.Version.TheVariants.{Narrow, Wide
 use Rattle.trace_reader.specs.declared.limits.TheConstants.{MOST_LINES}
 use Rattle.trace_reader.specs.declared.trace.Op.TheVariants.{Maps}
 use Rattle.trace_reader.specs.declared.trace.TraceLine.{TraceLine}
-use Rattle.trace_reader.specs.Fields.{thread_of}
+use Rattle.trace_reader.specs.Fields.{read_thread}
 use Rattle.trace_reader.specs.Grammar.{nothing, address_limit, config_of}
-use Rattle.trace_reader.specs.Lines.{SoFar, version_of, with_header, with_one, with_line, after_setting, after_words, after_line}
-use Rattle.trace_reader.specs.Operations.{line_of}
+use Rattle.trace_reader.specs.Lines.{SoFar, read_version, with_header, with_one, with_line, after_setting, after_words, after_trace_line}
+use Rattle.trace_reader.specs.Operations.{read_line}
 use Rattle.trace_reader.specs.Values.{AreNumbered}
 use Rattle.trace_reader.proofs.LineAdded.{AreRead-later, AreRead-nil}
 use Rattle.trace_reader.proofs.TraceValues.{IsSoFar, after_line-good}
-use Rattle.history.specs.Histories.{call_of, space_by, version_by}
+use Rattle.history.specs.Histories.{call_made, space_by, version_by}
 use Rattle.live_session.specs.declared.asking.Asked.{Asked}
 use Rattle.live_session.specs.declared.asking.Asked.TheVariants as asks
-use Rattle.live_session.specs.Asking.{added, areas_of, asked_by_words, asked_of, asked_of_new, beyond, is_new, list_read, own_line, own_operation, own_or, query_of}
-use Rattle.live_session.specs.Sessions.{IsWithinLimits, Opened, Session, after_operation, answer_by, answer_read, answered, begun, opened_by, refused, session_after}
-use Rattle.live_session.specs.Internal.Talking.{HasRoom, IsReached}
+use Rattle.live_session.specs.Asking.{asked_line, added_or, asked_by_words, asked_of, asked_of_new, beyond, is_fork_line, is_new, is_query_line, list_read, areas_line, query_of}
+use Rattle.live_session.specs.Sessions.{IsWithinLimits, Opened, Session, after_operation, session_answer, answer_read, line_answer, session_begun, opened_by, refused, session_after}
+use Rattle.live_session.specs.Internal.Talking.{SpaceHasRoom, IsReached}
 use Rattle.live_session.proofs.LinesAdded.{after_setting-lines, bind_holds, either, unless_holds}
 
 -- ---- no line takes lines away
@@ -50,16 +50,16 @@ unfolding after_words
 after_words-lines n s number text [] some = some
 after_words-lines n s number text (first ∷ words) some =
     either (HasLines n) (is_comment first) (Ok s) _ (λ _. some)
-    (λ _. either (HasLines n) (begins_with_digit first) (line_of number first words >>= λ line. with_line s line) (after_setting s text first words)
-    (λ _. bind_holds (HasLines n) (line_of number first words) _ (λ line. with_line-lines n s line some))
+    (λ _. either (HasLines n) (begins_with_digit first) (read_line number first words >>= λ line. with_line s line) (after_setting s text first words)
+    (λ _. bind_holds (HasLines n) (read_line number first words) _ (λ line. with_line-lines n s line some))
     (λ _. after_setting-lines (λ lines. n ≤ length lines) s text first words some))
 
 with_header-lines : (n : ℕ) (s : SoFar) (words : List (List ℕ)) → HasLines n s → IfOk (with_header s words) (HasLines n)
 unfolding with_header
-with_header-lines n s words some = bind_holds (HasLines n) (ok_or (version_of words) Header) _ (λ version. some)
+with_header-lines n s words some = bind_holds (HasLines n) (ok_or (read_version words) Header) _ (λ version. some)
 
-after_line-lines : (n : ℕ) (s : SoFar) (line : RawLine) → HasLines n s → IfOk (after_line s line) (HasLines n)
-unfolding after_line
+after_line-lines : (n : ℕ) (s : SoFar) (line : RawLine) → HasLines n s → IfOk (after_trace_line s line) (HasLines n)
+unfolding after_trace_line
 after_line-lines n s line some = bind_holds (HasLines n) (text_of line) _
     (λ text. either (HasLines n) (nat_eq line.number 1) (with_header s (words_of text)) (after_words s line.number text (words_of text))
     (λ _. with_header-lines n s (words_of text) some) (λ _. after_words-lines n s line.number text (words_of text) some))
@@ -96,42 +96,24 @@ pub ok_holds : {A B : Type 0} (P : B → Type 0) (r : Result A Cause) (f : A →
 ok_holds P (Ok x) f holds = holds x
 ok_holds P (Err cause) f holds = tt
 
--- what there is of an own line
-abbrev pub IsOwnLine : Option (Result Asked Cause) → Type 0
-IsOwnLine own = IfSome own (λ r. IfOk r IsOwn)
+-- what there is of a read of the list
+abbrev pub IsList : Option TraceLine → Type 0
+IsList list = IfSome list (λ line. line.op ≡ Maps)
 
-query_of-own : (words : List (List ℕ)) → IfOk (query_of words) IsOwn
-unfolding query_of
-query_of-own [] = tt
-query_of-own (address ∷ []) = ok_holds IsOwn (number address) _ (λ a. tt)
-query_of-own (address ∷ next ∷ words) = tt
+areas_line-list : (line : ℕ) (thread : Option ℕ) → IsList (option_map (areas_line line) thread)
+areas_line-list line (Some thread) = refl
+areas_line-list line None = tt
 
-own_operation-own : (words : List (List ℕ)) → IsOwnLine (own_operation words)
-unfolding own_operation
-own_operation-own [] = tt
-own_operation-own (name ∷ rest) = cond_both (bytes_eq name (codes "fork")) (Some (Err Child)) None IsOwnLine (λ _. tt) (λ _. tt)
-
-pub own_line-own : (words : List (List ℕ)) → IsOwnLine (own_line words)
-unfolding own_line
-own_line-own [] = tt
-own_line-own (first ∷ words) =
-    cond_both (bytes_eq first (codes "query")) (Some (query_of words)) _ IsOwnLine (λ _. query_of-own words)
-    (λ _. cond_both (begins_with_digit first) (own_operation words) None IsOwnLine (λ _. own_operation-own words) (λ _. tt))
-
-areas_of-own : (line : ℕ) (thread : List ℕ) → IfOk (areas_of line thread) IsOwn
-unfolding areas_of
-areas_of-own line thread = ok_holds IsOwn (ok_or (thread_of thread) Thread) _ (λ t. refl)
-
-pub list_read-own : (line : ℕ) (words : List (List ℕ)) → IsOwnLine (list_read line words)
+pub list_read-list : (line : ℕ) (words : List (List ℕ)) → IsList (list_read line words)
 unfolding list_read
-list_read-own line [] = tt
-list_read-own line (thread ∷ []) = tt
-list_read-own line (thread ∷ name ∷ []) =
-    cond_both (bytes_eq name (codes "maps")) (Some (areas_of line thread)) None IsOwnLine (λ _. areas_of-own line thread) (λ _. tt)
-list_read-own line (thread ∷ name ∷ next ∷ words) = tt
+list_read-list line [] = tt
+list_read-list line (thread ∷ []) = tt
+list_read-list line (thread ∷ name ∷ []) =
+    cond_both (bytes_eq name (codes "maps")) (option_map (areas_line line) (read_thread thread)) None IsList (λ _. areas_line-list line (read_thread thread)) (λ _. tt)
+list_read-list line (thread ∷ name ∷ next ∷ words) = tt
 
-beyond-own : (cause : Cause) (list : Option (Result Asked Cause)) → IsOwnLine list → IfOk (beyond cause list) IsOwn
-beyond-own TooMany (Some list) own = own
+beyond-own : (cause : Cause) (list : Option TraceLine) → IsList list → IfOk (beyond cause list) IsOwn
+beyond-own TooMany (Some line) own = own
 beyond-own _ _ own = tt
 
 own_bound : (P : Asked × SoFar → Type 0) (s : SoFar) (r : Result Asked Cause) → IfOk r IsOwn → ((asked : Asked) → IsOwn asked → P (asked, s))
@@ -140,7 +122,7 @@ own_bound P s (Ok asked) own holds = holds asked own
 own_bound P s (Err cause) own holds = tt
 
 -- so does a read of the list for which a trace has no room
-pub beyond_holds : (P : Asked × SoFar → Type 0) (s : SoFar) (cause : Cause) (list : Option (Result Asked Cause)) → IsOwnLine list
+pub beyond_holds : (P : Asked × SoFar → Type 0) (s : SoFar) (cause : Cause) (list : Option TraceLine) → IsList list
     → ((asked : Asked) → IsOwn asked → P (asked, s)) → IfOk (beyond cause list >>= λ asked. Ok (asked, s)) P
 beyond_holds P s cause list own holds = own_bound P s (beyond cause list) (beyond-own cause list own) holds
 
@@ -157,26 +139,24 @@ new_line : (before after : SoFar) (found : Option TraceLine) → slice_get after
 new_line before after None is line same = absurd cc
 new_line before after (Some other) is line same = slice_get_within after.lines (length before.lines) other is
 
-added_good : (n : ℕ) (before after : SoFar) → IsSoFar (n + 1) after → HasLines (length before.lines) after → IsGood n before (added before after)
+added_good : (n : ℕ) (before after : SoFar) → IsSoFar (n + 1) after → HasLines (length before.lines) after → IsGood n before (asked_line before after)
 added_good n before after known kept = record {
   known = known;
   kept = kept;
   more = λ line same. new_line before after (slice_get after.lines (length before.lines)) refl line same;
 }
 
-own_or-good : (n : ℕ) (s : SoFar) (own list : Option (Result Asked Cause)) (read : Result SoFar Cause) → IsSoFar n s → IsOwnLine own → IsOwnLine list
-    → IfOk read (λ after. IsSoFar (n + 1) after × HasLines (length s.lines) after) → IfOk (own_or own list s read) (IsGood n s)
-own_or-good n s (Some (Ok asked)) list read known own listed good = stays_good n s asked known own
-own_or-good n s (Some (Err cause)) list read known own listed good = tt
-own_or-good n s None list (Ok after) known own listed good = added_good n s after good.0 good.1
-own_or-good n s None list (Err cause) known own listed good =
+added_or-good : (n : ℕ) (s : SoFar) (list : Option TraceLine) (read : Result SoFar Cause) → IsSoFar n s → IsList list
+    → IfOk read (λ after. IsSoFar (n + 1) after × HasLines (length s.lines) after) → IfOk (added_or list s read) (IsGood n s)
+added_or-good n s list (Ok after) known listed good = added_good n s after good.0 good.1
+added_or-good n s list (Err cause) known listed good =
     beyond_holds (IsGood n s) s cause list listed (λ asked mine. stays_good n s asked known mine)
 
 after_line-known : (n : ℕ) (s : SoFar) (line : RawLine) → IsSoFar n s → line.number ≡ n → n < 2 ^ 64
-    → IfOk (after_line s line) (λ after. IsSoFar (n + 1) after × HasLines (length s.lines) after)
-after_line-known n s line known numbered small = by_read (after_line s line) refl (after_line-lines (length s.lines) s line (omega arith))
+    → IfOk (after_trace_line s line) (λ after. IsSoFar (n + 1) after × HasLines (length s.lines) after)
+after_line-known n s line known numbered small = by_read (after_trace_line s line) refl (after_line-lines (length s.lines) s line (omega arith))
   where
-    by_read : (r : Result SoFar Cause) → after_line s line ≡ r → IfOk r (HasLines (length s.lines))
+    by_read : (r : Result SoFar Cause) → after_trace_line s line ≡ r → IfOk r (HasLines (length s.lines))
         → IfOk r (λ after. IsSoFar (n + 1) after × HasLines (length s.lines) after)
     by_read (Ok after) is kept = (after_line-good s after line n known numbered small is, kept)
     by_read (Err cause) is kept = tt
@@ -187,9 +167,13 @@ unfolding asked_by_words
 asked_by_words-good n s line words known numbered small =
     cond_both (is_new words) (Ok (asks.New, s)) _ (λ (r : Result (Asked × SoFar) Cause). IfOk r (IsGood n s))
     (λ _. stays_good n s asks.New known tt)
-    (λ _. own_or-good n s (if nat_lt 1 line.number then own_line words else None) (list_read line.number words) (after_line s line) known
-    (cond_both (nat_lt 1 line.number) (own_line words) None IsOwnLine (λ _. own_line-own words) (λ _. tt)) (list_read-own line.number words)
-    (after_line-known n s line known numbered small))
+    (λ _. cond_both (is_query_line line.number words) (query_of words >>= λ address. Ok (asks.Query address, s)) _
+    (λ (r : Result (Asked × SoFar) Cause). IfOk r (IsGood n s))
+    (λ _. ok_holds (IsGood n s) (query_of words) _ (λ address. stays_good n s (asks.Query address) known tt))
+    (λ _. cond_both (is_fork_line line.number words) (Err Child) _ (λ (r : Result (Asked × SoFar) Cause). IfOk r (IsGood n s))
+    (λ _. tt)
+    (λ _. added_or-good n s (list_read line.number words) (after_trace_line s line) known (list_read-list line.number words)
+    (after_line-known n s line known numbered small))))
 
 asked_of-good : (n : ℕ) (s : SoFar) (line : RawLine) → IsSoFar n s → line.number ≡ n → n < 2 ^ 64 → IfOk (asked_of s line) (IsGood n s)
 unfolding asked_of
@@ -262,12 +246,12 @@ opened_small s valid = valid.most_files
 small_operated : (before s : SoFar) (opened : Option Opened) (line : TraceLine) → IsValidConfig (config_of s) → IsSmall before opened
     → length before.lines < length s.lines → IsSmall s (Some (after_operation (unwrap_or opened (opened_by s)) line.op))
 small_operated before s None line valid small more = (
-  omega (arith, objects_by (config_of s) (opening (config_of s)) (call_of (config_of s) (opening (config_of s)) line.op), opened_small s valid),
-  omega (arith, version_more 0 (call_of (config_of s) (opening (config_of s)) line.op)),
+  omega (arith, objects_by (config_of s) (opening (config_of s)) (call_made (config_of s) (opening (config_of s)) line.op), opened_small s valid),
+  omega (arith, version_more 0 (call_made (config_of s) (opening (config_of s)) line.op)),
 )
 small_operated before s (Some now) line valid small more = (
-  omega (arith, objects_by now.config now.space (call_of now.config now.space line.op), small.0),
-  omega (arith, version_more now.version (call_of now.config now.space line.op), small.1),
+  omega (arith, objects_by now.config now.space (call_made now.config now.space line.op), small.0),
+  omega (arith, version_more now.version (call_made now.config now.space line.op), small.1),
 )
 
 nothing_known : IsSoFar 1 nothing
@@ -281,7 +265,7 @@ nothing_known = record {
   lines = AreRead-nil;
 }
 
-begun_sane : (n : ℕ) → IsSane n begun
+begun_sane : (n : ℕ) → IsSane n session_begun
 begun_sane n = record { known = nothing_known; few = omega arith; small = tt }
 
 -- a line that was read
@@ -321,12 +305,12 @@ refused_sane n session cause sane = record {
 }
 
 by_reading : (n : ℕ) (session : Session) (r : Result (Asked × SoFar) Cause) → IsSane n session → IfOk r (IsGood (session.count + 1) session.so_far)
-    → IsSane (n + 1) (answer_by session r).session
+    → IsSane (n + 1) (session_answer session r).session
 by_reading n session (Ok read) sane good = read_sane n session read.0 read.1 sane good
 by_reading n session (Err cause) sane good = refused_sane n session cause sane
 
-sane_answered : (n : ℕ) (session : Session) (text : List ℕ) → n < 2 ^ 64 - 1 → IsSane n session → IsSane (n + 1) (answered session text).session
-unfolding answered
+sane_answered : (n : ℕ) (session : Session) (text : List ℕ) → n < 2 ^ 64 - 1 → IsSane n session → IsSane (n + 1) (line_answer session text).session
+unfolding line_answer
 sane_answered n session text small sane =
     by_reading n session (asked_of session.so_far (raw_line (session.count + 1) 0 text true)) sane
     (asked_of-good (session.count + 1) session.so_far (raw_line (session.count + 1) 0 text true) sane.known refl (omega (arith, sane.few)))
@@ -335,28 +319,28 @@ sane_after : (lines : List (List ℕ)) (n m : ℕ) (session : Session) → IsSan
     → IsSane m (session_after session lines)
 sane_after [] n m session sane within small = record { known = sane.known; few = omega (arith, sane.few); small = sane.small }
 sane_after (line ∷ lines) n m session sane within small =
-    sane_after lines (n + 1) m (answered session line).session (sane_answered n session line (omega arith) sane) (omega arith) small
+    sane_after lines (n + 1) m (line_answer session line).session (sane_answered n session line (omega arith) sane) (omega arith) small
 
 -- ---- what is needed of a session that lines lead to
 
-lined_sane : (session : Session) (lines : List (List ℕ)) → session ≡ session_after begun lines → length lines < 2 ^ 64 → IsSane (length lines) session
+lined_sane : (session : Session) (lines : List (List ℕ)) → session ≡ session_after session_begun lines → length lines < 2 ^ 64 → IsSane (length lines) session
 lined_sane session lines now few = subst (IsSane (length lines)) (sym now)
-    (sane_after lines 0 (length lines) begun (begun_sane 0) (omega arith) few)
+    (sane_after lines 0 (length lines) session_begun (begun_sane 0) (omega arith) few)
 
 -- the settings of lines are a valid configuration
-pub lined_config : (session : Session) (lines : List (List ℕ)) → session ≡ session_after begun lines → length lines < 2 ^ 64
+pub lined_config : (session : Session) (lines : List (List ℕ)) → session ≡ session_after session_begun lines → length lines < 2 ^ 64
     → IsValidConfig (config_of session.so_far)
 lined_config session lines now few =
     let sane = lined_sane session lines now few in
     config_known (session.count + 1) session.so_far sane.known
 
 -- of the lines each counts once at most
-pub lined_count : (session : Session) (lines : List (List ℕ)) → session ≡ session_after begun lines → length lines < 2 ^ 64 → session.count ≤ length lines
+pub lined_count : (session : Session) (lines : List (List ℕ)) → session ≡ session_after session_begun lines → length lines < 2 ^ 64 → session.count ≤ length lines
 lined_count session lines now few = (lined_sane session lines now few).few
 
-pub within_limits : (lines : List (List ℕ)) → length lines < 2 ^ 64 → IsWithinLimits (session_after begun lines)
+pub within_limits : (lines : List (List ℕ)) → length lines < 2 ^ 64 → IsWithinLimits (session_after session_begun lines)
 within_limits lines few =
-    let sane = lined_sane (session_after begun lines) lines refl few in
+    let sane = lined_sane (session_after session_begun lines) lines refl few in
     record { operations = sane.known.lines.few; maps = sane.known.lines.few_reads; files = sane.known.files; named = sane.known.lines.few_named }
 
 reached_sane : (session : Session) (reached : IsReached session) → IsSane (length reached.lines) session
@@ -368,11 +352,11 @@ reached_numbered session reached = (reached_sane session reached).known.lines.nu
 pub reached_count : (session : Session) → IsReached session → session.count < 2 ^ 64 - 1
 reached_count session reached = omega (arith, (reached_sane session reached).few, reached.few)
 
-room_of : (s : SoFar) (opened : Option Opened) → IsSmall s opened → length s.lines ≤ MOST_LINES → HasRoom opened
+room_of : (s : SoFar) (opened : Option Opened) → IsSmall s opened → length s.lines ≤ MOST_LINES → SpaceHasRoom opened
 room_of s None small few = tt
 room_of s (Some now) small few = (omega (arith, small.0, few), omega (arith, small.1, few))
 
-pub reached_room : (session : Session) → IsReached session → HasRoom session.opened
+pub reached_room : (session : Session) → IsReached session → SpaceHasRoom session.opened
 reached_room session reached =
     let sane = reached_sane session reached in
     room_of session.so_far session.opened sane.small sane.known.lines.few

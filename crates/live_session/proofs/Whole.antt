@@ -16,8 +16,8 @@ use Rattle.text_lexer.specs.BadLines.{at_line, bad_line}
 use Rattle.text_lexer.specs.Lines.{RawLine, is_newline, lines_from, lines_of_pieces, raw_line}
 use Rattle.trace_reader.specs.declared.trace.Trace.{Trace}
 use Rattle.trace_reader.specs.declared.trace.TraceLine.{TraceLine}
-use Rattle.trace_reader.specs.Grammar.{after_lines, config_of, lines_read, nothing, trace_of, trace_so_far, whole}
-use Rattle.trace_reader.specs.Lines.{SoFar, after_line}
+use Rattle.trace_reader.specs.Grammar.{after_trace_lines, config_of, lines_read, nothing, trace_of, trace_so_far, whole_trace}
+use Rattle.trace_reader.specs.Lines.{SoFar, after_trace_line}
 use Rattle.trace_reader.specs.Values.{children_of}
 use Rattle.history.specs.declared.items.Item.{Item}
 use Rattle.history.specs.Histories.{gather, items_from, serial_history, space_after, space_after_all, version_after}
@@ -28,7 +28,7 @@ use Rattle.output.specs.Telling.{told_in_turn}
 use Rattle.output.proofs.InTurn.{told_of_lines}
 use Rattle.live_session.specs.Asking.{asked_of_new}
 use Rattle.live_session.specs.Items.{after_operations, items_made, output_in_turn}
-use Rattle.live_session.specs.Sessions.{Answer, Opened, Session, after_operation, answer_by, answer_read, answered, answers, answers_of, areas_text, begun, closing_text, ending_text, last_piece, opened_by, operation_text, pieces_of, session_after, session_text, space_of, whole_lines}
+use Rattle.live_session.specs.Sessions.{LineAnswer, Opened, Session, after_operation, session_answer, answer_read, line_answer, answers, answers_of, areas_text, session_begun, closing_text, ending_text, last_piece, opened_by, operation_text, pieces_of, session_after, session_text, session_space, whole_lines}
 use Rattle.live_session.proofs.LinesAdded.{Adds, after_line-adds}
 use Rattle.live_session.proofs.Made.{Made, answered_made, begun_made, config_stays, gathered, item_at, opened_as, same_space, slice_get_behind}
 use Rattle.live_session.proofs.OwnLines.{asked_as_read, children_front, unended_bad}
@@ -62,7 +62,7 @@ texts_of so_far = texts (opened_by so_far) so_far.lines
 -- ---- one line
 
 -- a line was answered that leaves this
-record IsStep (s : Session) (told : List ℕ) (after : SoFar) (answer : Answer) : Type 0 where
+record IsStep (s : Session) (told : List ℕ) (after : SoFar) (answer : LineAnswer) : Type 0 where
   so_far : answer.session.so_far ≡ after
   count : answer.session.count ≡ s.count + 1
   text : told ++ answer.text ≡ texts_of after
@@ -96,28 +96,28 @@ line_step s told after made is (inr none) =
     same (inr config) = ap (λ (c : Config). texts (opened_as c) s.so_far.lines) (sym config)
 
 -- what a line that was read adds
-adds_of : (s after : SoFar) (line : RawLine) → (line.number ≡ 1 → s.lines ≡ []) → after_line s line ≡ Ok after → Adds s after
+adds_of : (s after : SoFar) (line : RawLine) → (line.number ≡ 1 → s.lines ≡ []) → after_trace_line s line ≡ Ok after → Adds s after
 adds_of s after line headed is = subst (λ (r : Result SoFar Cause). IfOk r (Adds s)) is (after_line-adds s line headed)
 
 -- a whole line that a trace without forks has
 read_answered : (s : Session) (told : List ℕ) (start : ℕ) (text : List ℕ) (after : SoFar) → Made s → told ≡ texts_of s.so_far
-    → after_line s.so_far (raw_line (s.count + 1) start text true) ≡ Ok after → children_of after.lines ≡ [] → IsStep s told after (answered s text)
-unfolding answered
+    → after_trace_line s.so_far (raw_line (s.count + 1) start text true) ≡ Ok after → children_of after.lines ≡ [] → IsStep s told after (line_answer s text)
+unfolding line_answer
 read_answered s told start text after made is read none =
     let adds : Adds s.so_far after =
     adds_of s.so_far after (raw_line (s.count + 1) start text true) (λ first. made.headed (omega (arith, first))) read in
-    subst (IsStep s told after) (sym (ap (answer_by s) (asked_as_read s.so_far after (s.count + 1) start text read none)))
+    subst (IsStep s told after) (sym (ap (session_answer s) (asked_as_read s.so_far after (s.count + 1) start text read none)))
     (line_step s told after made is adds)
 
 -- ---- one line after another
 
 -- what the next lines leave, where the first is good
-next_lines : (s final : SoFar) (line : RawLine) (lines : List RawLine) → after_lines s (line ∷ lines) ≡ Ok final
-    → (next : SoFar) × (after_line s line ≡ Ok next) × (after_lines next lines ≡ Ok final)
-next_lines s final line lines is = by_line (after_line s line) refl is
+next_lines : (s final : SoFar) (line : RawLine) (lines : List RawLine) → after_trace_lines s (line ∷ lines) ≡ Ok final
+    → (next : SoFar) × (after_trace_line s line ≡ Ok next) × (after_trace_lines next lines ≡ Ok final)
+next_lines s final line lines is = by_line (after_trace_line s line) refl is
   where
-    by_line : (r : Result SoFar Cause) → after_line s line ≡ r → at_line line.number r (λ next. after_lines next lines) ≡ Ok final
-        → (next : SoFar) × (after_line s line ≡ Ok next) × (after_lines next lines ≡ Ok final)
+    by_line : (r : Result SoFar Cause) → after_trace_line s line ≡ r → at_line line.number r (λ next. after_trace_lines next lines) ≡ Ok final
+        → (next : SoFar) × (after_trace_line s line ≡ Ok next) × (after_trace_lines next lines ≡ Ok final)
     by_line (Ok next) good same = (next, good, same)
     by_line (Err cause) bad same = absurd cc
 
@@ -126,12 +126,12 @@ adds_none : (s after : SoFar) → Adds s after → children_of after.lines ≡ [
 adds_none s after (inl one) none = (children_front s.lines (one.0 ∷ []) (ap children_of (sym one.1) ∙ none)).0
 adds_none s after (inr same) none = ap children_of (sym same.0) ∙ none
 
-none_before : (pieces : List (List ℕ)) (s final : SoFar) (number start : ℕ) → 1 < number → after_lines s (lines_of_pieces number start pieces) ≡ Ok final
+none_before : (pieces : List (List ℕ)) (s final : SoFar) (number start : ℕ) → 1 < number → after_trace_lines s (lines_of_pieces number start pieces) ≡ Ok final
     → children_of final.lines ≡ [] → children_of s.lines ≡ []
 none_before [] s final number start later is none = let same : s ≡ final = cc in ap (λ (x : SoFar). children_of x.lines) same ∙ none
 none_before (text ∷ []) s final number start later is none = by_length (nat_eq (length text) 0) is
   where
-    by_length : (b : Bool) → after_lines s (if b then [] else raw_line number start text false ∷ []) ≡ Ok final → children_of s.lines ≡ []
+    by_length : (b : Bool) → after_trace_lines s (if b then [] else raw_line number start text false ∷ []) ≡ Ok final → children_of s.lines ≡ []
     by_length true same = let all : s ≡ final = cc in ap (λ (x : SoFar). children_of x.lines) all ∙ none
     by_length false same =
         let next = next_lines s final (raw_line number start text false) [] same in
@@ -158,7 +158,7 @@ record AreAnswered (s : Session) (told : List ℕ) (front : List (List ℕ)) (la
   ended : last ≡ []
 
 lines_answered : (front : List (List ℕ)) (last : List ℕ) (s : Session) (told : List ℕ) (start : ℕ) (final : SoFar) → Made s → told ≡ texts_of s.so_far
-    → after_lines s.so_far (lines_of_pieces (s.count + 1) start (front ++ last ∷ [])) ≡ Ok final → children_of final.lines ≡ []
+    → after_trace_lines s.so_far (lines_of_pieces (s.count + 1) start (front ++ last ∷ [])) ≡ Ok final → children_of final.lines ≡ []
     → AreAnswered s told front last final
 lines_answered [] [] s told start final made is read none =
     let same : s.so_far ≡ final = cc in
@@ -166,7 +166,7 @@ lines_answered [] [] s told start final made is read none =
 lines_answered [] (c ∷ last) s told start final made is read none = by_length (nat_eq (length (c ∷ last)) 0) refl read
   where
     by_length : (b : Bool) → nat_eq (length (c ∷ last)) 0 ≡ b
-        → after_lines s.so_far (if b then [] else raw_line (s.count + 1) start (c ∷ last) false ∷ []) ≡ Ok final → AreAnswered s told [] (c ∷ last) final
+        → after_trace_lines s.so_far (if b then [] else raw_line (s.count + 1) start (c ∷ last) false ∷ []) ≡ Ok final → AreAnswered s told [] (c ∷ last) final
     by_length true empty same = absurd (omega (arith, eqb-true (length (c ∷ last)) 0 empty))
     by_length false some same =
         let next = next_lines s.so_far final (raw_line (s.count + 1) start (c ∷ last) false) [] same in
@@ -176,20 +176,20 @@ lines_answered (text ∷ front) last s told start final made is read none =
     let line : RawLine = raw_line (s.count + 1) start text true in
     let rest : List RawLine = lines_of_pieces (s.count + 1 + 1) (start + length text + 1) (front ++ last ∷ []) in
     let next = next_lines s.so_far final line rest
-    (ap (after_lines s.so_far) (sym (first_ended text front last (s.count + 1) start)) ∙ read) in
+    (ap (after_trace_lines s.so_far) (sym (first_ended text front last (s.count + 1) start)) ∙ read) in
     let unforked : children_of next.0.lines ≡ [] =
     none_before (front ++ last ∷ []) next.0 final (s.count + 1 + 1) (start + length text + 1) (omega arith) next.2 none in
     let step = read_answered s told start text next.0 made is next.1 unforked in
-    let now : Session = (answered s text).session in
-    let later = lines_answered front last now (told ++ (answered s text).text) (start + length text + 1) final (answered_made s text made)
+    let now : Session = (line_answer s text).session in
+    let later = lines_answered front last now (told ++ (line_answer s text).text) (start + length text + 1) final (answered_made s text made)
     (step.text ∙ ap texts_of (sym step.so_far))
-    (ap (λ (n : ℕ). after_lines now.so_far (lines_of_pieces (n + 1) (start + length text + 1) (front ++ last ∷ []))) step.count
-    ∙ ap (λ (x : SoFar). after_lines x rest) step.so_far ∙ next.2) none in
+    (ap (λ (n : ℕ). after_trace_lines now.so_far (lines_of_pieces (n + 1) (start + length text + 1) (front ++ last ∷ []))) step.count
+    ∙ ap (λ (x : SoFar). after_trace_lines x rest) step.so_far ∙ next.2) none in
     record {
       so_far = later.so_far;
       made = later.made;
       count = omega (arith, later.count, step.count);
-      text = sym (append_assoc told (answered s text).text (answers now front)) ∙ later.text;
+      text = sym (append_assoc told (line_answer s text).text (answers now front)) ∙ later.text;
       ended = later.ended;
     }
 
@@ -222,10 +222,10 @@ areas_last config lines =
     ∙ ap (λ (s : AddressSpace). maps_text config.files s.areas) (space_last (opened_as config) lines)
 
 -- where no byte is left a session ends with its list
-ending : (session : Session) (last : List ℕ) → last ≡ [] → 0 < session.count → ending_text session last ≡ areas_text (space_of session)
+ending : (session : Session) (last : List ℕ) → last ≡ [] → 0 < session.count → ending_text session last ≡ areas_text (session_space session)
 unfolding ending_text closing_text
 ending session last none some =
-    ap (λ (l : List ℕ). ending_text session l) none ∙ ap (λ (b : Bool). if b then areas_text (space_of session) else []) (lt-ltb 0 session.count some)
+    ap (λ (l : List ℕ). ending_text session l) none ∙ ap (λ (b : Bool). if b then areas_text (session_space session) else []) (lt-ltb 0 session.count some)
 
 last_piece-cut : (input : List ℕ) (lines : List (List ℕ)) (rest : List ℕ) → pieces_of input ≡ lines ++ rest ∷ [] → last_piece input ≡ rest
 unfolding last_piece
@@ -237,36 +237,36 @@ some_bytes (c ∷ bytes) some = omega arith
 
 -- what all lines leave, and that there are some
 some_lines : (input : List ℕ) (trace : Trace) → trace_of input ≡ Ok trace
-    → (0 < length input) × (final : SoFar) × (after_lines nothing (lines_of_pieces 1 0 (pieces_of input)) ≡ Ok final) × (trace_so_far final ≡ trace)
+    → (0 < length input) × (final : SoFar) × (after_trace_lines nothing (lines_of_pieces 1 0 (pieces_of input)) ≡ Ok final) × (trace_so_far final ≡ trace)
 unfolding trace_of lines_read lines_from
 some_lines input trace is = by_length (nat_eq (length input) 0) refl is
   where
-    by_lines : (r : Result SoFar BadLine) → after_lines nothing (lines_of_pieces 1 0 (pieces_of input)) ≡ r → whole r ≡ Ok trace
-        → (final : SoFar) × (after_lines nothing (lines_of_pieces 1 0 (pieces_of input)) ≡ Ok final) × (trace_so_far final ≡ trace)
+    by_lines : (r : Result SoFar BadLine) → after_trace_lines nothing (lines_of_pieces 1 0 (pieces_of input)) ≡ r → whole_trace r ≡ Ok trace
+        → (final : SoFar) × (after_trace_lines nothing (lines_of_pieces 1 0 (pieces_of input)) ≡ Ok final) × (trace_so_far final ≡ trace)
     by_lines (Ok final) good same = (final, good, cc)
     by_lines (Err bad) wrong same = absurd cc
 
     by_length : (b : Bool) → nat_eq (length input) 0 ≡ b
-        → (if b then Err (bad_line 1 Header) else whole (after_lines nothing (lines_of_pieces 1 0 (pieces_of input)))) ≡ Ok trace
-        → (0 < length input) × (final : SoFar) × (after_lines nothing (lines_of_pieces 1 0 (pieces_of input)) ≡ Ok final) × (trace_so_far final ≡ trace)
+        → (if b then Err (bad_line 1 Header) else whole_trace (after_trace_lines nothing (lines_of_pieces 1 0 (pieces_of input)))) ≡ Ok trace
+        → (0 < length input) × (final : SoFar) × (after_trace_lines nothing (lines_of_pieces 1 0 (pieces_of input)) ≡ Ok final) × (trace_so_far final ≡ trace)
     by_length true empty same = absurd cc
     by_length false some same =
-        let lines = by_lines (after_lines nothing (lines_of_pieces 1 0 (pieces_of input))) refl same in
+        let lines = by_lines (after_trace_lines nothing (lines_of_pieces 1 0 (pieces_of input))) refl same in
         (some_bytes input some, lines.0, lines.1, lines.2)
 
-session_in_turn : (input : List ℕ) (final : SoFar) → 0 < length input → after_lines nothing (lines_of_pieces 1 0 (pieces_of input)) ≡ Ok final
+session_in_turn : (input : List ℕ) (final : SoFar) → 0 < length input → after_trace_lines nothing (lines_of_pieces 1 0 (pieces_of input)) ≡ Ok final
     → children_of final.lines ≡ [] → session_text input ≡ output_in_turn (trace_so_far final)
 unfolding session_text answers_of
 session_in_turn input final some read none =
     let config : Config = config_of final in
     let cut = ended_pieces (pieces_of input) (some_pieces input) in
-    let all = lines_answered cut.front cut.last begun [] 0 final begun_made refl
-    (ap (λ (p : List (List ℕ)). after_lines nothing (lines_of_pieces 1 0 p)) (sym cut.is) ∙ read) none in
-    let session : Session = session_after begun cut.front in
+    let all = lines_answered cut.front cut.last session_begun [] 0 final begun_made refl
+    (ap (λ (p : List (List ℕ)). after_trace_lines nothing (lines_of_pieces 1 0 p)) (sym cut.is) ∙ read) none in
+    let session : Session = session_after session_begun cut.front in
     let headed : 0 < length cut.front = some_front cut.front cut.last cut.is all.ended in
     let whole : whole_lines input ≡ cut.front = whole_lines-cut input cut.front cut.last cut.is in
-    ap (λ (l : List (List ℕ)). answers begun l ++ ending_text (session_after begun l) (last_piece input)) whole
-    ∙ ap (λ (t : List ℕ). answers begun cut.front ++ t)
+    ap (λ (l : List (List ℕ)). answers session_begun l ++ ending_text (session_after session_begun l) (last_piece input)) whole
+    ∙ ap (λ (t : List ℕ). answers session_begun cut.front ++ t)
     (ending session (last_piece input) (last_piece-cut input cut.front cut.last cut.is ∙ all.ended) (omega (arith, all.count, headed))
     ∙ ap areas_text (all.made.space ∙ ap (λ (x : SoFar). after_operations (opened_by x) x.lines) all.so_far)
     ∙ areas_last config final.lines)

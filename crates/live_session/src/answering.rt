@@ -2,9 +2,9 @@
 ghost use Rattle.std.specs.Prelude.{◌≡◌, ◌<◌, ◌+◌, ◌-◌, ◌^◌, ◌++◌, false, IfOk, IsErr, IsSome, IsSomeAnd, OnErr, OnOk, length, unwrap_or, vec_capacity, vec_len};
 ghost use Rattle.text_lexer.specs.Lines.{raw_line, text_of};
 ghost use Rattle.trace_reader.specs.Lines.{SoFar};
-ghost use Rattle.live_session.specs.Sessions.{answer_read, answered, areas_text, bad_counted, bad_text, closing_text, ending_text, found_text, opened_by, unended_text};
+ghost use Rattle.live_session.specs.Sessions.{answer_read, line_answer, areas_text, bad_counted, bad_text, closing_text, ending_text, found_text, opened_by, unended_text};
 ghost use Rattle.live_session.specs.Internal.Lacking.{LacksRoom, MayLack};
-ghost use Rattle.live_session.specs.Internal.Talking.{AnswersLine, HasRoom, IsReached, Operates, as_called, session_of};
+ghost use Rattle.live_session.specs.Internal.Talking.{AnswersLine, SpaceHasRoom, IsReached, Operates, as_called, session_of};
 
 use crate::asking::{Asked, Says};
 use crate::live_space::LiveSpace;
@@ -28,7 +28,7 @@ pub(crate) enum Stop {
 
 /// Appends the answer to a whole line, without its newline. An operation that is to open an address space is handed out in place of its
 /// answer. Fails only where memory runs out.
-#[tactic(auto, unfolding(crate::specs::Sessions::answered))]
+#[tactic(auto, unfolding(crate::specs::Sessions::line_answer))]
 pub(crate) fn answer_line(
     alloc: Global,
     piece: &mut Vec<u8>,
@@ -37,7 +37,7 @@ pub(crate) fn answer_line(
     text: &[u8],
 ) -> Result<Option<Stop>, NoMemory>
     requires { IsReached (session_of says.old space.old) }
-    ensures answers { IfOk result (AnswersLine (answered (session_of says.old space.old) text.now) piece.old.items piece.new.items
+    ensures answers { IfOk result (AnswersLine (line_answer (session_of says.old space.old) text.now) piece.old.items piece.new.items
         (session_of says.new space.new)) }
     ensures open { IsSome space.old → IsSome space.new }
 {
@@ -80,7 +80,7 @@ fn answer(
     asked: Asked,
 ) -> Result<Option<Stop>, NoMemory>
     requires count { says.old.count < 2 ^ 64 - 1 }
-    requires room { HasRoom space.old }
+    requires room { SpaceHasRoom space.old }
     ensures answers { IfOk result (AnswersLine (answer_read (session_of says.old space.old) asked) piece.old.items piece.new.items
         (session_of says.new space.new)) }
     ensures open { IsSome space.old → IsSome space.new }
@@ -120,7 +120,7 @@ fn operate(
     space: &mut Option<LiveSpace<'_>>,
     line: TraceLine,
 ) -> Result<Option<Stop>, NoMemory>
-    requires { HasRoom space.old }
+    requires { SpaceHasRoom space.old }
     ensures operates { IfOk result (Operates space.old space.new line piece.old.items piece.new.items) }
     ensures memory { OnErr result (IsSomeAnd space.old (λ now. LacksRoom now line (vec_capacity piece.old) (vec_len piece.old))) }
     ensures open { IsSome space.old → IsSome space.new }
@@ -158,7 +158,7 @@ fn push_areas(
     }
 }
 
-/// Appends the line of the first area that ends above an address, or `none`.
+/// Appends the line of the first area that ends above an address, without the spaces at its end, or `none`.
 fn push_found(
     piece: &mut Vec<u8>,
     space: &Option<LiveSpace<'_>>,

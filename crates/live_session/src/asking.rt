@@ -6,9 +6,9 @@ ghost use Rattle.trace_reader.specs.Reading.{StaysIfBad, so_far};
 ghost use Rattle.trace_reader.specs.Values.{AreNumbered};
 ghost use Rattle.live_session.specs.Asking.{asked_of, asked_of_new};
 
-use crate::own_lines::{beyond, is_new, list_read, own_line};
+use crate::own_lines::{beyond, is_fork_line, is_new, is_query_line, list_read, query_of};
 use std::alloc::Global;
-use text_lexer::{CallError, RawLine, text_of, words_of};
+use text_lexer::{CallError, Cause, RawLine, text_of, words_of};
 use trace_reader::{TraceBuilder, TraceLine};
 
 /// What a line asks for.
@@ -61,10 +61,11 @@ impl Says {
         if is_new(words.as_slice()) {
             return Ok(Asked::New);
         }
-        if 1 < line.number {
-            if let Some(own) = own_line(words.as_slice()) {
-                return Ok(own?);
-            }
+        if is_query_line(line.number, words.as_slice()) {
+            return Ok(Asked::Query(query_of(words.as_slice())?));
+        }
+        if is_fork_line(line.number, words.as_slice()) {
+            return Err(CallError::Bad(Cause::Child));
         }
         let list = list_read(line.number, words.as_slice());
         let before = self.builder.lines().len();

@@ -3,9 +3,9 @@ ghost use Rattle.std.specs.Prelude.{◌≡◌, ◌<◌, ◌-◌, ◌^◌, ◌++�
 ghost use Rattle.std.specs.Option.{option_map};
 ghost use Rattle.io_edge.specs.Edge.{SinkView, SourceView};
 ghost use Rattle.live_session.specs.Conversing.{IsConversation};
-ghost use Rattle.live_session.specs.Sessions.{begun, operated};
+ghost use Rattle.live_session.specs.Sessions.{session_begun, operated};
 ghost use Rattle.live_session.specs.Internal.Held.{Turns};
-ghost use Rattle.live_session.specs.Internal.Talking.{Ends, EndsSpace, IsTalking, Talked, session_of, status_of};
+ghost use Rattle.live_session.specs.Internal.Talking.{Ends, EndsSpace, IsTalking, Talked, session_of, session_end};
 
 use crate::answering::{Stop, answer_line, push_ending};
 use crate::asking::Says;
@@ -44,9 +44,9 @@ fn answer_spaces<S: Source, K: Sink>(
     piece: &mut Vec<u8>,
     spare: &mut Option<Spare>,
 ) -> Result<(), Status>
-    requires { IsTalking (S.seen source.old) (K.seen sink.old) held.old piece.old.items begun }
-    ensures { (s : SourceView) (k : SinkView) → Talked s (S.seen source.old) k (K.seen sink.old) held.old piece.old.items begun
-        → IsConversation (status_of result) s (S.seen source.new) k (K.seen sink.new) }
+    requires { IsTalking (S.seen source.old) (K.seen sink.old) held.old piece.old.items session_begun }
+    ensures { (s : SourceView) (k : SinkView) → Talked s (S.seen source.old) k (K.seen sink.old) held.old piece.old.items session_begun
+        → IsConversation (session_end result) s (S.seen source.new) k (K.seen sink.new) }
 {
     'spaces: while answer_space(alloc, source, sink, held, piece, spare)? {}
     Ok(())
@@ -61,8 +61,8 @@ fn answer_space<S: Source, K: Sink>(
     piece: &mut Vec<u8>,
     spare: &mut Option<Spare>,
 ) -> Result<bool, Status>
-    requires { IsTalking (S.seen source.old) (K.seen sink.old) held.old piece.old.items begun }
-    ensures ends { (s : SourceView) (k : SinkView) → Talked s (S.seen source.old) k (K.seen sink.old) held.old piece.old.items begun
+    requires { IsTalking (S.seen source.old) (K.seen sink.old) held.old piece.old.items session_begun }
+    ensures ends { (s : SourceView) (k : SinkView) → Talked s (S.seen source.old) k (K.seen sink.old) held.old piece.old.items session_begun
         → EndsSpace s (S.seen source.new) k (K.seen sink.new) held.new piece.new.items result }
     ensures turns { IfOk result (λ more. Turns held.old held.new) }
     ensures spared { IfOk result (λ more. more ≡ true → IsSome spare.old → IsSome spare.new) }

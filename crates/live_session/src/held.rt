@@ -2,8 +2,8 @@
 ghost use Rattle.std.specs.Prelude.{◌≡◌, ◌≤◌, ◌<◌, ◌+◌, ◌-◌, ◌^◌, ◌++◌, [], IfOk, MatchOption, OnOk, drop, length};
 ghost use Rattle.io_edge.specs.Edge.{SinkView, SourceView};
 ghost use Rattle.live_session.specs.Sessions.{Session};
-ghost use Rattle.live_session.specs.Internal.Held.{HasLine, HasNoNewline, TakesMore, Turns, kept};
-ghost use Rattle.live_session.specs.Internal.Talking.{Finds, IsTalking, Talked};
+ghost use Rattle.live_session.specs.Internal.Held.{HasNewlineAt, HasNoNewline, TakesMore, Turns, kept};
+ghost use Rattle.live_session.specs.Internal.Talking.{FindsLine, IsTalking, Talked};
 
 use crate::giving::give_answers;
 use crate::status::Status;
@@ -34,13 +34,13 @@ pub(crate) struct Held {
 
 impl Model for Held {
     ghost use Rattle.std.specs.Prelude.{drop};
-    ghost use Rattle.live_session.specs.Internal.Held.{HeldView, IsHeld};
+    ghost use Rattle.live_session.specs.Internal.Held.{HeldLineView, AreBytesHeld};
 
-    ghost Value = { HeldView };
+    ghost Value = { HeldLineView };
 
     ghost view = { λ held. record { bytes = drop held.at held.bytes.items; searched = held.searched; turns = held.turns } };
 
-    ghost invariant = { λ held. IsHeld held.bytes.items held.at held.searched };
+    ghost invariant = { λ held. AreBytesHeld held.bytes.items held.at held.searched };
 }
 
 impl Held {
@@ -75,7 +75,7 @@ impl Held {
 
     /// The length of the first line, if a newline ends one. Only what was not searched yet is.
     fn line_len(&self) -> Option<usize>
-        ensures { MatchOption result (HasNoNewline self.now.bytes) (HasLine self.now.bytes) }
+        ensures { MatchOption result (HasNoNewline self.now.bytes) (HasNewlineAt self.now.bytes) }
     {
         match memchr(b'\n', &self.bytes()[self.searched..]) {
             Some(len) => Some(self.searched + len),
@@ -139,7 +139,7 @@ impl Held {
     ) -> Result<Option<usize>, Status>
         requires { (session : Session) × IsTalking (S.seen source.old) (K.seen sink.old) self.old piece.old.items session }
         ensures found { (s : SourceView) (k : SinkView) (session : Session) → Talked s (S.seen source.old) k (K.seen sink.old) self.old piece.old.items session
-            → Finds s (S.seen source.new) k (K.seen sink.new) self.new piece.new.items session result }
+            → FindsLine s (S.seen source.new) k (K.seen sink.new) self.new piece.new.items session result }
         ensures turns { IfOk result (λ len. Turns self.old self.new) }
     {
         'turns: while self.turns < u64::MAX {

@@ -11,7 +11,7 @@ ghost use Rattle.history.specs.Histories.{gather, serial_history, space_after_al
 ghost use Rattle.output.specs.Output.{listed_text, serial_output};
 ghost use Rattle.live_session.specs.declared.held.TheConstants.{MOST_KEPT, PIECE};
 ghost use Rattle.live_session.specs.Items.{IsTextOfItem, after_operations, items_made, output_in_turn};
-ghost use Rattle.live_session.specs.Sessions.{IsWithinLimits, answered, answers_of, begun, opened_by, read_at, session_after, session_text, space_of};
+ghost use Rattle.live_session.specs.Sessions.{IsWithinLimits, line_answer, answers_of, session_begun, opened_by, line_asks, session_after, session_text, session_space};
 
 use crate::asking::Asked;
 
@@ -46,19 +46,19 @@ pub fn a_trace_is_answered_by_its_items()
 /// Whatever the lines of a session, its space is that of the model after the operations since the last `new`, and the answer to an operation
 /// is the text of its item. So is that to a read of the list for which the lines have no room.
 pub fn operations_are_answered_by_items()
-    ensures spaces { (lines : List (List ℕ)) → space_of (session_after begun lines)
-        ≡ after_operations (opened_by (session_after begun lines).so_far) (session_after begun lines).so_far.lines }
+    ensures spaces { (lines : List (List ℕ)) → session_space (session_after session_begun lines)
+        ≡ after_operations (opened_by (session_after session_begun lines).so_far) (session_after session_begun lines).so_far.lines }
     ensures operations { (lines : List (List ℕ)) (text : List ℕ) (line : TraceLine) (after : SoFar)
-        → read_at (session_after begun lines) text ≡ Ok (Asked.Operation line, after)
-        → (after.lines ≡ (session_after begun lines).so_far.lines ++ line ∷ [])
-        × IsTextOfItem (config_of after) (session_after begun lines).so_far.lines line (answered (session_after begun lines) text).text }
+        → line_asks (session_after session_begun lines) text ≡ Ok (Asked.Operation line, after)
+        → (after.lines ≡ (session_after session_begun lines).so_far.lines ++ line ∷ [])
+        × IsTextOfItem (config_of after) (session_after session_begun lines).so_far.lines line (line_answer (session_after session_begun lines) text).text }
     ensures lists { (lines : List (List ℕ)) (text : List ℕ) (line : TraceLine) (after : SoFar)
-        → read_at (session_after begun lines) text ≡ Ok (Asked.Areas line, after)
-        → IsTextOfItem (config_of after) (session_after begun lines).so_far.lines line (answered (session_after begun lines) text).text }
+        → line_asks (session_after session_begun lines) text ≡ Ok (Asked.Areas line, after)
+        → IsTextOfItem (config_of after) (session_after session_begun lines).so_far.lines line (line_answer (session_after session_begun lines) text).text }
     ensures gathered { (config : Config) (lines : List TraceLine) → serial_history config lines ≡ gather (items_made config lines) }
 {}
 
 /// However long a session is, a space of it has no more operations and files than a trace.
 pub fn a_space_is_within_limits()
-    ensures { (lines : List (List ℕ)) → length lines < 2 ^ 64 → IsWithinLimits (session_after begun lines) }
+    ensures { (lines : List (List ℕ)) → length lines < 2 ^ 64 → IsWithinLimits (session_after session_begun lines) }
 {}

@@ -2,12 +2,12 @@
 ghost use Rattle.std.specs.Prelude.{◌≡◌, ◌≤◌, ◌<◌, ◌+◌, ◌-◌, ◌/◌, ◌^◌, ◌++◌, false, None, Some, IfOk, IsOk, IsSomeAnd, OnErr, OnOk, vec_capacity, vec_len};
 ghost use Rattle.mm_types.specs.Config.{IsValidConfig};
 ghost use Rattle.area_rules.specs.Steps.{opening};
-ghost use Rattle.history.specs.Histories.{answer_of, call_of, read_of, space_after, space_by, answer_by, version_by};
+ghost use Rattle.history.specs.Histories.{answer_of, call_made, read_of, space_after, space_by, answer_by, version_by};
 ghost use Rattle.live_session.specs.Sessions.{after_operation, areas_text, found_text, operation_text};
 ghost use Rattle.live_session.specs.Internal.Lacking.{LacksRoom, reads_list};
 
 use history::{Content, Item, made_call};
-use maps_print::push_line;
+use maps_print::push_trimmed;
 use mm_types::{Config, NoMemory, PAGE_SIZE, Page};
 use output::{push_item, push_maps};
 use plain_space::{PlainSpace, Room};
@@ -142,9 +142,9 @@ impl<'a> LiveSpace<'a> {
     }
 
     /// What an operation reads that makes no call. Only a list takes memory.
-    #[tactic(auto, unfolding(history::specs::Histories::call_of))]
+    #[tactic(auto, unfolding(history::specs::Histories::call_made))]
     fn read(&self, alloc: Global, op: Op) -> Result<Content, NoMemory>
-        requires { call_of self.now.config self.now.space op ≡ None }
+        requires { call_made self.now.config self.now.space op ≡ None }
         ensures content { IfOk result (λ content. content ≡ read_of self.now.config self.now.space op) }
         ensures at_once { reads_list op ≡ false → IsOk result }
     {
@@ -171,12 +171,12 @@ impl<'a> LiveSpace<'a> {
         push_maps(piece, &self.config.files, list.items())
     }
 
-    /// Appends the line of the first area that ends above an address, or `none`. Fails only where memory runs out.
+    /// Appends the line of the first area that ends above an address, without the spaces at its end, or `none`. Fails only where memory runs out.
     pub(crate) fn push_found(&self, piece: &mut Vec<u8>, address: u64) -> Result<(), NoMemory>
         ensures { OnOk result (piece.new.items ≡ piece.old.items ++ found_text self.now address) }
     {
         match self.space.area_from(Page(address / PAGE_SIZE)) {
-            Some(area) => push_line(piece, &area, &self.config.files),
+            Some(area) => push_trimmed(piece, &area, &self.config.files),
             None => Ok(piece.extend_from_slice(b"none\n")?),
         }
     }

@@ -1,7 +1,7 @@
 //! The lines that no trace has, or that a session answers in its own way.
-ghost use Rattle.std.specs.Prelude.{◌≡◌, map};
-ghost use Rattle.text_lexer.specs.Reading.{Reads};
-ghost use Rattle.live_session.specs.Asking.{areas_of, beyond, is_new, list_read, own_line, own_operation, query_of};
+ghost use Rattle.std.specs.Prelude.{◌≡◌, map, option_map};
+ghost use Rattle.trace_reader.specs.Fields.{read_thread};
+ghost use Rattle.live_session.specs.Asking.{beyond, is_fork_line, is_new, is_query_line, list_read, areas_line, query_of};
 
 use crate::asking::Asked;
 use text_lexer::{Cause, begins_with_digit, number};
@@ -18,85 +18,70 @@ pub(crate) fn is_new(words: &[&str]) -> bool
     }
 }
 
-/// What a line below the header asks for that is no line of a trace, or that a session answers in its own way.
-#[tactic(auto, unfolding(crate::specs::Asking::own_line))]
-pub(crate) fn own_line(words: &[&str]) -> Option<Result<Asked, Cause>>
-    ensures { result ≡ own_line (map (λ word. word.now) words.now) }
+/// Whether the first word of a line below the header, which has this number, is `query`.
+#[tactic(auto, unfolding(crate::specs::Asking::is_query_line))]
+pub(crate) fn is_query_line(line: u64, words: &[&str]) -> bool
+    ensures { result ≡ is_query_line line (map (λ word. word.now) words.now) }
 {
-    let [first, rest @ ..] = words else {
-        return None;
-    };
-    if *first == "query" {
-        return Some(query_of(rest));
-    }
-    if begins_with_digit(first) {
-        own_operation(rest)
-    } else {
-        None
+    match words {
+        [first, ..] => 1 < line && *first == "query",
+        [] => false,
     }
 }
 
-/// The answer to an address, in bytes, which is the only word.
+/// Whether the operation of a line below the header, which has this number, is `fork`.
+#[tactic(auto, unfolding(crate::specs::Asking::is_fork_line))]
+pub(crate) fn is_fork_line(line: u64, words: &[&str]) -> bool
+    ensures { result ≡ is_fork_line line (map (λ word. word.now) words.now) }
+{
+    match words {
+        [first, name, ..] => 1 < line && begins_with_digit(first) && *name == "fork",
+        _ => false,
+    }
+}
+
+/// The address of `query ADDRESS`, in bytes.
 #[tactic(auto, unfolding(crate::specs::Asking::query_of))]
-fn query_of(words: &[&str]) -> Result<Asked, Cause>
+pub(crate) fn query_of(words: &[&str]) -> Result<u64, Cause>
     ensures { result ≡ query_of (map (λ word. word.now) words.now) }
 {
-    let [address] = words else {
+    let [_, address] = words else {
         return Err(Cause::Arity);
     };
-    let address = number(address)?;
-    Ok(Asked::Query(address))
-}
-
-/// What an operation asks for that a session answers in its own way, by the words after its thread: `fork` is refused.
-#[tactic(auto, unfolding(crate::specs::Asking::own_operation))]
-fn own_operation(words: &[&str]) -> Option<Result<Asked, Cause>>
-    ensures { result ≡ own_operation (map (λ word. word.now) words.now) }
-{
-    let [name, ..] = words else {
-        return None;
-    };
-    if *name == "fork" {
-        Some(Err(Cause::Child))
-    } else {
-        None
-    }
+    number(address)
 }
 
 /// The read of the list that words are, on the line of this number: a thread, and `maps` alone.
 #[tactic(auto, unfolding(crate::specs::Asking::list_read))]
-pub(crate) fn list_read(line: u64, words: &[&str]) -> Option<Result<Asked, Cause>>
+pub(crate) fn list_read(line: u64, words: &[&str]) -> Option<TraceLine>
     ensures { result ≡ list_read line (map (λ word. word.now) words.now) }
 {
     match words {
-        [thread, name] if *name == "maps" => Some(areas_of(line, thread)),
+        [thread, name] if *name == "maps" => areas_line(line, thread),
         _ => None,
     }
 }
 
 /// A read of the list by a thread, on the line of this number.
-#[tactic(auto, unfolding(crate::specs::Asking::areas_of))]
-fn areas_of(line: u64, thread: &str) -> Result<Asked, Cause>
-    ensures { result ≡ areas_of line thread.now }
+fn areas_line(line: u64, thread: &str) -> Option<TraceLine>
+    ensures { result ≡ option_map (areas_line line) (read_thread thread.now) }
 {
-    let Some(thread) = thread_of(thread) else {
-        return Err(Cause::Thread);
-    };
-    Ok(Asked::Areas(TraceLine {
+    let thread = thread_of(thread)?;
+    Some(TraceLine {
         number: line,
         thread,
         op: Op::Maps,
         after: None,
-    }))
+    })
 }
 
 /// What a line asks for that is refused as one of a trace by this cause: a read of the list for which a trace has no room is answered all the
 /// same.
-pub(crate) fn beyond(cause: Cause, list: Option<Result<Asked, Cause>>) -> Result<Asked, Cause>
+pub(crate) fn beyond(cause: Cause, list: Option<TraceLine>) -> Result<Asked, Cause>
     ensures { result ≡ beyond cause list }
 {
     match (cause, list) {
-        (Cause::TooMany, Some(list)) => list,
+        (Cause::TooMany, Some(line)) => Ok(Asked::Areas(line)),
         (cause, _) => Err(cause),
     }
 }

@@ -1,5 +1,5 @@
 ghost use Rattle.std.specs.Prelude.{◌≡◌};
-ghost use Rattle.live_session.specs.Statuses.{line_of_status, number_of_status};
+ghost use Rattle.live_session.specs.Statuses.{session_status_line, session_status_number};
 ghost use Rattle.live_session.specs.declared.status.Status.TheVariants.{NoMemory as no_memory};
 
 use mm_types::NoMemory;
@@ -39,9 +39,9 @@ impl From<AllocError> for Status {
 
 impl From<PrintError> for Status {
     ghost use Rattle.std.specs.Prelude.{◌≡◌};
-    ghost use Rattle.live_session.specs.Statuses.{status_of_print};
+    ghost use Rattle.live_session.specs.Statuses.{session_status_of_print};
 
-    ghost from_gives = { λ error status. status ≡ status_of_print error };
+    ghost from_gives = { λ error status. status ≡ session_status_of_print error };
 
     fn from(error: PrintError) -> Status {
         match error {
@@ -53,7 +53,7 @@ impl From<PrintError> for Status {
 
 /// The exit status of the program: 0 where the session is done, and 3 to 6 else.
 pub fn status_number(status: Status) -> u8
-    ensures { result ≡ number_of_status status }
+    ensures { result ≡ session_status_number status }
 {
     match status {
         Status::Done => 0,
@@ -66,7 +66,7 @@ pub fn status_number(status: Status) -> u8
 
 /// The line for standard error, without its newline: empty where the session is done, else as `read fault`.
 pub fn status_line(status: Status) -> &'static str
-    ensures { result.now ≡ line_of_status status }
+    ensures { result.now ≡ session_status_line status }
 {
     match status {
         Status::Done => "",

@@ -25,11 +25,11 @@ use Rattle.lock_core.specs.declared.events.LockEvent.TheVariants.{End}
 use Rattle.lock_core.specs.declared.events.StepRefusal.TheVariants.{NotTheList}
 use Rattle.lock_core.specs.declared.stage.SlotState.{SlotState}
 use Rattle.lock_core.specs.declared.state.LockState.TheInside.{Inside}
-use Rattle.lock_core.specs.Core.{Core}
+use Rattle.lock_core.specs.Core.{LockCore}
 use Rattle.lock_core.specs.Rows.{is_detached, attached_weight, Exactly}
-use Rattle.lock_core.specs.Events.{after_end, entry_of}
-use Rattle.lock_core.specs.Refusals.{first_page, sorted_rows, first_difference, list_difference, refusal}
-use Rattle.lock_core.specs.Kept.{IsKept}
+use Rattle.lock_core.specs.Events.{after_end, entry_after}
+use Rattle.lock_core.specs.Refusals.{first_page, sorted_rows, first_difference, list_difference, lock_refusal}
+use Rattle.lock_core.specs.Kept.{IsLockKept}
 use Rattle.lock_core.proofs.Keeping.{end_keeps}
 use Rattle.lock_core.proofs.Weighing.{sum_by-attached, sum_by-packed}
 
@@ -73,19 +73,19 @@ rows_exact slots areas none weight =
     omega (arith, same, sum_by-sort_by first_page weight attached, sum_by-attached weight slots, sum_by-packed weight areas)
 
 -- where a step may be taken
-pub kept_ready : (state : Inside) → IsKept state → length state.protocol.journal < 2 ^ 31 → IsReady state.config (space_of state.list state.counters)
+pub kept_ready : (state : Inside) → IsLockKept state → length state.protocol.journal < 2 ^ 31 → IsReady state.config (space_of state.list state.counters)
 kept_ready state kept room =
     subst (λ (space : AddressSpace). IsReady state.config space) (sym kept.space) (after_ready state.config state.protocol.journal kept.valid (omega arith))
 
 -- a call that was made is the one that the journal's new entry makes
-pub ended_space : (state : Inside) (caller : ℕ) (call : Call) (areas : List Record) (counters : Counters) (reply : Reply) → IsKept state
+pub ended_space : (state : Inside) (caller : ℕ) (call : Call) (areas : List Record) (counters : Counters) (reply : Reply) → IsLockKept state
     → (let made : Outcome = record { space = space_of areas counters; reply = reply } in made ≡ step state.config (space_of state.list state.counters) call)
-    → (reply ≡ (entry_of state.config state.protocol.journal caller call).reply)
-    × (space_of areas counters ≡ after state.config (state.protocol.journal ++ entry_of state.config state.protocol.journal caller call ∷ []))
+    → (reply ≡ (entry_after state.config state.protocol.journal caller call).reply)
+    × (space_of areas counters ≡ after state.config (state.protocol.journal ++ entry_after state.config state.protocol.journal caller call ∷ []))
 ended_space state caller call areas counters reply kept made =
     let there = made ∙ ap (λ (space : AddressSpace). step state.config space call) kept.space in (
       ap (λ (o : Outcome). o.reply) there,
-      ap (λ (o : Outcome). o.space) there ∙ sym (after-push state.config state.protocol.journal (entry_of state.config state.protocol.journal caller call)),
+      ap (λ (o : Outcome). o.space) there ∙ sym (after-push state.config state.protocol.journal (entry_after state.config state.protocol.journal caller call)),
     )
 
 -- its areas are valid
@@ -95,10 +95,10 @@ ended_valid config journal areas counters valid few is =
     subst (λ (l : List Record). All IsValid l) (sym (ap (λ (space : AddressSpace). space.areas) is)) ((after_ready config journal valid few).sound.canonical.valid)
 
 -- a state keeps its fields at the end of a call whose rows show the list after it
-pub kept_end : (state : Inside) (caller : ℕ) (call : Call) (areas : List Record) (counters : Counters) → IsKept state → nat_eq (state.protocol.seq % 2) 1 ≡ true
-    → space_of areas counters ≡ after state.config (state.protocol.journal ++ entry_of state.config state.protocol.journal caller call ∷ [])
+pub kept_end : (state : Inside) (caller : ℕ) (call : Call) (areas : List Record) (counters : Counters) → IsLockKept state → nat_eq (state.protocol.seq % 2) 1 ≡ true
+    → space_of areas counters ≡ after state.config (state.protocol.journal ++ entry_after state.config state.protocol.journal caller call ∷ [])
     → first_difference (sorted_rows state.protocol.slots) (map packed areas) ≡ None
-    → IsKept (record state { protocol = after_end state.protocol (entry_of state.config state.protocol.journal caller call); list = areas; counters = counters })
+    → IsLockKept (record state { protocol = after_end state.protocol (entry_after state.config state.protocol.journal caller call); list = areas; counters = counters })
 kept_end state caller call areas counters kept is_open is none = record {
   valid = kept.valid;
   facts = end_keeps state.config state.protocol entry kept.facts (eqb-true (state.protocol.seq % 2) 1 is_open)
@@ -109,12 +109,12 @@ kept_end state caller call areas counters kept is_open is none = record {
 }
   where
     entry : Entry
-    entry = entry_of state.config state.protocol.journal caller call
+    entry = entry_after state.config state.protocol.journal caller call
 
 -- whether an end is refused once a call is open, by where the rows differ from the list
-pub refusal_end : (config : Config) (core : Core) (caller : ℕ) (call : Call) → nat_eq (core.seq % 2) 1 ≡ true
-    → refusal config core (End caller call) ≡ option_map NotTheList (list_difference config core (End caller call))
-unfolding refusal
+pub refusal_end : (config : Config) (core : LockCore) (caller : ℕ) (call : Call) → nat_eq (core.seq % 2) 1 ≡ true
+    → lock_refusal config core (End caller call) ≡ option_map NotTheList (list_difference config core (End caller call))
+unfolding lock_refusal
 refusal_end config core caller call is_open =
     let odd = eqb-true (core.seq % 2) 1 is_open in
     let closed : nat_eq (core.seq % 2) 0 ≡ false = ne_eqb (core.seq % 2) 0 (λ e. absurd (omega arith)) in
@@ -135,7 +135,7 @@ difference_is slots shown rows areas items found sorted same same_items is =
 
 -- the same of the list after a call
 pub list_difference_is : (state : Inside) (caller : ℕ) (call : Call) (areas : List Record) (counters : Counters) (found : Option ℕ)
-    → space_of areas counters ≡ after state.config (state.protocol.journal ++ entry_of state.config state.protocol.journal caller call ∷ [])
+    → space_of areas counters ≡ after state.config (state.protocol.journal ++ entry_after state.config state.protocol.journal caller call ∷ [])
     → first_difference (sorted_rows state.protocol.slots) (map packed areas) ≡ found
     → list_difference state.config state.protocol (End caller call) ≡ found
 list_difference_is state caller call areas counters found is same =

@@ -9,7 +9,7 @@ use Rattle.mm_types.specs.declared.call.Entry.{Entry}
 use Rattle.lock_core.specs.declared.stage.SlotState.{SlotState}
 use Rattle.lock_core.specs.declared.stage.Stage.{Stage}
 use Rattle.lock_core.specs.declared.stage.Stage.TheVariants.{Out, Holds, Valid, Gone}
-use Rattle.lock_core.specs.Core.{Reader, slot_at, count_at, reader_at, free_slot, gone_reader, held, is_slot, holds, StartsWith}
+use Rattle.lock_core.specs.Core.{Reader, slot_at, count_at, reader_at, free_slot, gone_reader, slot_held, is_slot, holds, StartsWith}
 use Rattle.lock_core.specs.Facts.{HoldersFact, StaysValid, ValidationFact, SeenFact}
 use Rattle.lock_core.specs.Events.{longer}
 use Rattle.lock_core.proofs.Elements.{each_set, each_push, count_by-set}
@@ -19,10 +19,10 @@ abbrev pub IsFound : List SlotState → Option (ℕ × ℕ) → Type 0
 IsFound slots at = IfSome at (λ at. (at.0 < length slots) × ((slot_at slots at.0).lock_seq ≡ at.1))
 
 -- a reader that holds nothing is counted in no slot
-pub holds-none : (slot : ℕ) (reader : Reader) → held reader.stage ≡ None → holds slot reader ≡ false
+pub holds-none : (slot : ℕ) (reader : Reader) → slot_held reader.stage ≡ None → holds slot reader ≡ false
 holds-none slot reader none = ap (is_slot slot) none
 
-pub holds-some : (slot : ℕ) (reader : Reader) (at : ℕ × ℕ) → held reader.stage ≡ Some at → holds slot reader ≡ nat_eq at.0 slot
+pub holds-some : (slot : ℕ) (reader : Reader) (at : ℕ × ℕ) → slot_held reader.stage ≡ Some at → holds slot reader ≡ nat_eq at.0 slot
 holds-some slot reader at some = ap (is_slot slot) some
 
 -- a reader that holds a slot is one of the readers
@@ -36,7 +36,7 @@ reader_within readers reader there = elim (cases_lt reader (length readers)) [
 pub holders_change : (slots : List SlotState) (counts after : List ℕ) (readers : List Reader) (reader : ℕ) (changed : Reader)
     → HoldersFact slots counts readers → reader < length readers → length after ≡ length counts
     → ((slot : ℕ) → count_at after slot + cond (holds slot (reader_at readers reader)) 1 0 ≡ count_at counts slot + cond (holds slot changed) 1 0)
-    → IsFound slots (held changed.stage)
+    → IsFound slots (slot_held changed.stage)
     → HoldersFact slots after (set readers reader changed)
 holders_change slots counts after readers reader changed fact within same moved found = record {
   each_slot = same ∙ fact.each_slot;
@@ -45,7 +45,7 @@ holders_change slots counts after readers reader changed fact within same moved 
       let change = moved slot in
       let recount = count_by-set (holds slot) readers reader changed gone_reader within in
       omega arith;
-  found = each_set (λ (r : Reader). IsFound slots (held r.stage)) readers reader changed gone_reader fact.found found;
+  found = each_set (λ (r : Reader). IsFound slots (slot_held r.stage)) readers reader changed gone_reader fact.found found;
 }
 
 -- a slot changes that no reader holds, or whose lock sequence stays
@@ -56,10 +56,10 @@ pub holders_slot : (slots : List SlotState) (counts : List ℕ) (readers : List 
 holders_slot slots counts readers slot changed fact keeps = record {
   each_slot = fact.each_slot ∙ sym (length-set slots slot changed);
   counted = fact.counted;
-  found = λ reader. at reader (held (reader_at readers reader).stage) refl (fact.found reader) (keeps reader);
+  found = λ reader. at reader (slot_held (reader_at readers reader).stage) refl (fact.found reader) (keeps reader);
 }
   where
-    at : (reader : ℕ) (place : Option (ℕ × ℕ)) → held (reader_at readers reader).stage ≡ place → IsFound slots place
+    at : (reader : ℕ) (place : Option (ℕ × ℕ)) → slot_held (reader_at readers reader).stage ≡ place → IsFound slots place
         → (is_slot slot place ≡ true → changed.lock_seq ≡ (slot_at slots slot).lock_seq)
         → IsFound (set slots slot changed) place
     at reader None is found keeps = tt
@@ -76,7 +76,7 @@ holders_slot slots counts readers slot changed fact keeps = record {
 
 -- a new reader, which holds nothing
 pub holders_push : (slots : List SlotState) (counts : List ℕ) (readers : List Reader) (new : Reader)
-    → HoldersFact slots counts readers → held new.stage ≡ None → HoldersFact slots counts (readers ++ new ∷ [])
+    → HoldersFact slots counts readers → slot_held new.stage ≡ None → HoldersFact slots counts (readers ++ new ∷ [])
 holders_push slots counts readers new fact none = record {
   each_slot = fact.each_slot;
   counted = λ slot.
@@ -84,7 +84,7 @@ holders_push slots counts readers new fact none = record {
       let nothing = cond-false {A = ℕ} (holds slot new) 1 0 (holds-none slot new none) in
       let more = sum_by_push (λ (r : Reader). cond (holds slot r) 1 0) readers new in
       omega arith;
-  found = each_push (λ (r : Reader). IsFound slots (held r.stage)) readers new gone_reader fact.found
+  found = each_push (λ (r : Reader). IsFound slots (slot_held r.stage)) readers new gone_reader fact.found
       (let P : Option (ℕ × ℕ) → Type 0 = IsFound slots in subst P (sym none) tt);
 }
 

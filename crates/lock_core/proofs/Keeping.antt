@@ -14,17 +14,17 @@ use Rattle.area_rules.specs.Steps.{IsLegalJournal}
 use Rattle.lock_core.specs.declared.stage.SlotState.{SlotState}
 use Rattle.lock_core.specs.declared.stage.Stage.{Stage}
 use Rattle.lock_core.specs.declared.stage.Stage.TheVariants.{Out, Holds, Valid, Gone}
-use Rattle.lock_core.specs.Core.{Core, Reader, slot_at, count_at, reader_at, free_slot, gone_reader, held, is_slot, holds, StartsWith}
+use Rattle.lock_core.specs.Core.{LockCore, Reader, slot_at, count_at, reader_at, free_slot, gone_reader, slot_held, is_slot, holds, StartsWith}
 use Rattle.lock_core.specs.Rows.{is_marked, attached_weight, Within, Exactly}
-use Rattle.lock_core.specs.Facts.{list_after, HoldersFact, StaysValid, Facts}
-use Rattle.lock_core.specs.Events.{with_reader, looked, longer, held_slot, after_add, after_look, after_sub, after_begin, after_mark, after_store, after_end, after_split, after_join}
+use Rattle.lock_core.specs.Facts.{list_after, HoldersFact, StaysValid, LockFacts}
+use Rattle.lock_core.specs.Events.{with_reader, stage_after_look, longer, held_slot, after_add, after_look, after_sub, after_begin, after_mark, after_store, after_end, after_lock_split, after_lock_join}
 use Rattle.lock_core.proofs.Elements.{each_set, none_passes}
 use Rattle.lock_core.proofs.Weighing.{shown_weight, WeighsWithin, shown-set, within_weighs, weighs_within}
 use Rattle.lock_core.proofs.Holding.{IsFound, holds-none, holds-some, reader_within, holders_change, holders_slot, holders_push, valid_change, valid_slot, valid_sequence, valid_push, starts_more, starts_all, starts_longer, seen_change, seen_push}
 
 -- add
-pub add_keeps : (config : Config) (core : Core) (reader slot : ℕ) → Facts config core
-    → (reader_at core.readers reader).stage ≡ Out → slot < length core.slots → Facts config (after_add core reader slot)
+pub add_keeps : (config : Config) (core : LockCore) (reader slot : ℕ) → LockFacts config core
+    → (reader_at core.readers reader).stage ≡ Out → slot < length core.slots → LockFacts config (after_add core reader slot)
 add_keeps config core reader slot facts out there =
     let within : reader < length core.readers = reader_within core.readers reader (λ gone. let e = sym out ∙ gone in cc) in
     let same = facts.holders.each_slot in
@@ -43,7 +43,7 @@ add_keeps config core reader slot facts out there =
         → count_at (set core.counts slot (count_at core.counts slot + 1)) place + cond (holds place (reader_at core.readers reader)) 1 0
         ≡ count_at core.counts place + cond (nat_eq slot place) 1 0
     counted within place =
-        let nothing = cond-false {A = ℕ} (holds place (reader_at core.readers reader)) 1 0 (holds-none place (reader_at core.readers reader) (ap held out)) in
+        let nothing = cond-false {A = ℕ} (holds place (reader_at core.readers reader)) 1 0 (holds-none place (reader_at core.readers reader) (ap slot_held out)) in
         elim (eqb_tells slot place) [
           | inl here ↦
               let one = cond-true {A = ℕ} (nat_eq slot place) 1 0 here.0 in
@@ -58,15 +58,15 @@ add_keeps config core reader slot facts out there =
         ]
 
 -- where a reader stands after a look, it holds what it held
-pub looked-held : (seq : ℕ) (slots : List SlotState) (stage : Stage) → held (looked seq slots stage) ≡ held stage
+pub looked-held : (seq : ℕ) (slots : List SlotState) (stage : Stage) → slot_held (stage_after_look seq slots stage) ≡ slot_held stage
 looked-held seq slots Out = refl
 looked-held seq slots (Holds slot found) =
-    cond_both (nat_eq found seq) (Holds slot found) (Valid slot found (slot_at slots slot).row) (λ (s : Stage). held s ≡ Some (slot, found)) (λ h. refl) (λ h. refl)
+    cond_both (nat_eq found seq) (Holds slot found) (Valid slot found (slot_at slots slot).row) (λ (s : Stage). slot_held s ≡ Some (slot, found)) (λ h. refl) (λ h. refl)
 looked-held seq slots (Valid slot found row) = refl
 looked-held seq slots Gone = refl
 
 -- and it is validated rightly
-pub looked-valid : (seq : ℕ) (slots : List SlotState) (stage : Stage) → IsFound slots (held stage) → StaysValid seq slots stage → StaysValid seq slots (looked seq slots stage)
+pub looked-valid : (seq : ℕ) (slots : List SlotState) (stage : Stage) → IsFound slots (slot_held stage) → StaysValid seq slots stage → StaysValid seq slots (stage_after_look seq slots stage)
 looked-valid seq slots Out found valid = tt
 looked-valid seq slots (Holds slot at) found valid =
     cond_both (nat_eq at seq) (Holds slot at) (Valid slot at (slot_at slots slot).row) (StaysValid seq slots) (λ h. tt)
@@ -75,19 +75,19 @@ looked-valid seq slots (Valid slot at row) found valid = valid
 looked-valid seq slots Gone found valid = tt
 
 -- what a reader holds is not nothing
-held_somewhere : (stage : Stage) (at : ℕ × ℕ) → held stage ≡ Some at → stage ≡ Gone → ⊥
-held_somewhere stage at some gone = let e = sym some ∙ ap held gone in cc
+held_somewhere : (stage : Stage) (at : ℕ × ℕ) → slot_held stage ≡ Some at → stage ≡ Gone → ⊥
+held_somewhere stage at some gone = let e = sym some ∙ ap slot_held gone in cc
 
 -- the core in which a reader gave a slot back
-abbrev given_back : Core → ℕ → ℕ → Core
+abbrev given_back : LockCore → ℕ → ℕ → LockCore
 given_back core reader slot = record core {
   counts = set core.counts slot (count_at core.counts slot - 1);
   readers = set core.readers reader (record (reader_at core.readers reader) { stage = Out });
 }
 
 -- one reader fewer holds the slot
-count_falls : (core : Core) (reader : ℕ) (at : ℕ × ℕ) → HoldersFact core.slots core.counts core.readers
-    → held (reader_at core.readers reader).stage ≡ Some at → reader < length core.readers → at.0 < length core.slots → (place : ℕ)
+count_falls : (core : LockCore) (reader : ℕ) (at : ℕ × ℕ) → HoldersFact core.slots core.counts core.readers
+    → slot_held (reader_at core.readers reader).stage ≡ Some at → reader < length core.readers → at.0 < length core.slots → (place : ℕ)
     → count_at (set core.counts at.0 (count_at core.counts at.0 - 1)) place + cond (holds place (reader_at core.readers reader)) 1 0
     ≡ count_at core.counts place + 0
 count_falls core reader at fact some within there place =
@@ -110,15 +110,15 @@ count_falls core reader at fact some within there place =
     ]
 
 -- sub
-pub sub_keeps : (config : Config) (core : Core) (reader : ℕ) (at : ℕ × ℕ) → Facts config core
-    → held (reader_at core.readers reader).stage ≡ Some at → Facts config (after_sub core reader)
+pub sub_keeps : (config : Config) (core : LockCore) (reader : ℕ) (at : ℕ × ℕ) → LockFacts config core
+    → slot_held (reader_at core.readers reader).stage ≡ Some at → LockFacts config (after_sub core reader)
 sub_keeps config core reader at facts some =
     let old = reader_at core.readers reader in
     let new : Reader = record old { stage = Out } in
     let slot_is : held_slot core reader ≡ at.0 = ap (λ (o : Option (ℕ × ℕ)). (unwrap_or o (0, 0)).0) some in
     let within : reader < length core.readers = reader_within core.readers reader (held_somewhere old.stage at some) in
     let found : IsFound core.slots (Some at) = subst (λ (o : Option (ℕ × ℕ)). IsFound core.slots o) some (facts.holders.found reader) in
-    let back : Facts config (given_back core reader at.0) = record {
+    let back : LockFacts config (given_back core reader at.0) = record {
       sequence = facts.sequence;
       holders = holders_change core.slots core.counts (set core.counts at.0 (count_at core.counts at.0 - 1)) core.readers reader new facts.holders within
           (length-set core.counts at.0 (count_at core.counts at.0 - 1)) (count_falls core reader at facts.holders some within found.0) tt;
@@ -126,7 +126,7 @@ sub_keeps config core reader at facts some =
       validation = valid_change core.seq core.slots core.readers reader new facts.validation tt;
       seen = seen_change core.readers core.journal reader new facts.seen (facts.seen reader);
     } in
-    subst (λ slot. Facts config (given_back core reader slot)) (sym slot_is) back
+    subst (λ slot. LockFacts config (given_back core reader slot)) (sym slot_is) back
 
 -- rows in slots that are not marked weigh no more than all attached rows
 within_exact : (seq : ℕ) (slots : List SlotState) (areas : List Record) → Exactly slots areas → Within seq slots areas
@@ -137,7 +137,7 @@ within_exact seq slots areas exact = weighs_within seq slots areas
     less weight slot = cond_both (is_marked seq slot) 0 (attached_weight weight slot) (λ n. n ≤ attached_weight weight slot) (λ h. omega arith) (λ h. omega arith)
 
 -- begin
-pub begin_keeps : (config : Config) (core : Core) → Facts config core → core.seq % 2 ≡ 0 → Facts config (after_begin core)
+pub begin_keeps : (config : Config) (core : LockCore) → LockFacts config core → core.seq % 2 ≡ 0 → LockFacts config (after_begin core)
 begin_keeps config core facts even = record {
   sequence = record {
     counts = omega (arith, even, facts.sequence.counts);
@@ -156,7 +156,7 @@ begin_keeps config core facts even = record {
 }
 
 -- what no reader holds is held by none
-held_by_none : (core : Core) (slot : ℕ) → HoldersFact core.slots core.counts core.readers → count_at core.counts slot ≡ 0
+held_by_none : (core : LockCore) (slot : ℕ) → HoldersFact core.slots core.counts core.readers → count_at core.counts slot ≡ 0
     → (reader : ℕ) → holds slot (reader_at core.readers reader) ≡ false
 held_by_none core slot fact none reader = none_passes (holds slot) core.readers reader gone_reader refl (sym (fact.counted slot) ∙ none)
 
@@ -178,8 +178,8 @@ within_marked seq slots areas slot changed marked within = weighs_within seq (se
     (weighs_marked seq slots areas slot changed marked (within_weighs seq slots areas within))
 
 -- mark
-pub mark_keeps : (config : Config) (core : Core) (slot : ℕ) → Facts config core → core.seq % 2 ≡ 1 → count_at core.counts slot ≡ 0
-    → Facts config (after_mark core slot)
+pub mark_keeps : (config : Config) (core : LockCore) (slot : ℕ) → LockFacts config core → core.seq % 2 ≡ 1 → count_at core.counts slot ≡ 0
+    → LockFacts config (after_mark core slot)
 mark_keeps config core slot facts is_open none =
     let new : SlotState = record (slot_at core.slots slot) { lock_seq = core.seq } in
     let unheld = held_by_none core slot facts.holders none in
@@ -198,13 +198,13 @@ mark_keeps config core slot facts is_open none =
       };
       validation = valid_slot core.seq core.slots core.readers slot new facts.validation
           (λ reader found row is.
-          let e = sym (unheld reader) ∙ holds-some slot (reader_at core.readers reader) (slot, found) (ap held is) ∙ eq-eqb slot slot refl in cc);
+          let e = sym (unheld reader) ∙ holds-some slot (reader_at core.readers reader) (slot, found) (ap slot_held is) ∙ eq-eqb slot slot refl in cc);
       seen = facts.seen;
     }
 
 -- store
-pub store_keeps : (config : Config) (core : Core) (slot field word : ℕ) → Facts config core → core.seq % 2 ≡ 1
-    → (slot_at core.slots slot).lock_seq ≡ core.seq → Facts config (after_store core slot field word)
+pub store_keeps : (config : Config) (core : LockCore) (slot field word : ℕ) → LockFacts config core → core.seq % 2 ≡ 1
+    → (slot_at core.slots slot).lock_seq ≡ core.seq → LockFacts config (after_store core slot field word)
 store_keeps config core slot field word facts is_open marked =
     let new : SlotState = record (slot_at core.slots slot) { row = set (slot_at core.slots slot).row field word } in
     record {
@@ -229,9 +229,9 @@ store_keeps config core slot field word facts is_open marked =
     }
 
 -- end
-pub end_keeps : (config : Config) (core : Core) (entry : Entry) → Facts config core → core.seq % 2 ≡ 1
+pub end_keeps : (config : Config) (core : LockCore) (entry : Entry) → LockFacts config core → core.seq % 2 ≡ 1
     → IsLegalJournal config (core.journal ++ entry ∷ []) → Exactly core.slots (list_after config (core.journal ++ entry ∷ []))
-    → Facts config (after_end core entry)
+    → LockFacts config (after_end core entry)
 end_keeps config core entry facts is_open legal exact = record {
   sequence = record {
     counts = omega (arith, is_open, facts.sequence.counts, length-append core.journal (entry ∷ []));
@@ -250,7 +250,7 @@ end_keeps config core entry facts is_open legal exact = record {
 }
 
 -- split
-pub split_keeps : (config : Config) (core : Core) (reader : ℕ) → Facts config core → Facts config (after_split core reader)
+pub split_keeps : (config : Config) (core : LockCore) (reader : ℕ) → LockFacts config core → LockFacts config (after_lock_split core reader)
 split_keeps config core reader facts =
     let new : Reader = record { stage = Out; seen = (reader_at core.readers reader).seen } in
     record {
@@ -262,9 +262,9 @@ split_keeps config core reader facts =
     }
 
 -- a reader that holds what another held takes its place
-same_hold : (config : Config) (core : Core) (reader : ℕ) (new : Reader) → Facts config core
-    → held new.stage ≡ held (reader_at core.readers reader).stage → StaysValid core.seq core.slots new.stage → StartsWith core.journal new.seen
-    → Facts config (with_reader core reader new)
+same_hold : (config : Config) (core : LockCore) (reader : ℕ) (new : Reader) → LockFacts config core
+    → slot_held new.stage ≡ slot_held (reader_at core.readers reader).stage → StaysValid core.seq core.slots new.stage → StartsWith core.journal new.seen
+    → LockFacts config (with_reader core reader new)
 same_hold config core reader new facts same valid starts = elim (cases_lt reader (length core.readers)) [
   | inl within ↦ record {
     sequence = facts.sequence;
@@ -275,25 +275,25 @@ same_hold config core reader new facts same valid starts = elim (cases_lt reader
     validation = valid_change core.seq core.slots core.readers reader new facts.validation valid;
     seen = seen_change core.readers core.journal reader new facts.seen starts;
   }
-  | inr past ↦ subst (λ (readers : List Reader). Facts config (record core { readers = readers })) (sym (set_past core.readers reader new past)) facts
+  | inr past ↦ subst (λ (readers : List Reader). LockFacts config (record core { readers = readers })) (sym (set_past core.readers reader new past)) facts
 ]
 
 -- join
-pub join_keeps : (config : Config) (core : Core) (first second : ℕ) → Facts config core → held (reader_at core.readers second).stage ≡ None
-    → first ≢ second → Facts config (after_join core first second)
+pub join_keeps : (config : Config) (core : LockCore) (first second : ℕ) → LockFacts config core → slot_held (reader_at core.readers second).stage ≡ None
+    → first ≢ second → LockFacts config (after_lock_join core first second)
 join_keeps config core first second facts free apart =
     let one = reader_at core.readers first in
     let new : Reader = record one { seen = longer one.seen (reader_at core.readers second).seen } in
-    let middle : Facts config (with_reader core first new) = same_hold config core first new facts refl (facts.validation first)
+    let middle : LockFacts config (with_reader core first new) = same_hold config core first new facts refl (facts.validation first)
     (starts_longer core.journal one.seen (reader_at core.readers second).seen (facts.seen first) (facts.seen second)) in
     let unchanged = get_or-set_other core.readers first second new gone_reader (λ e. apart (sym e)) in
-    same_hold config (with_reader core first new) second gone_reader middle (sym (ap (λ (r : Reader). held r.stage) unchanged ∙ free)) tt refl
+    same_hold config (with_reader core first new) second gone_reader middle (sym (ap (λ (r : Reader). slot_held r.stage) unchanged ∙ free)) tt refl
 
 -- look
-pub look_keeps : (config : Config) (core : Core) (reader : ℕ) → Facts config core → Facts config (after_look core reader)
+pub look_keeps : (config : Config) (core : LockCore) (reader : ℕ) → LockFacts config core → LockFacts config (after_look core reader)
 look_keeps config core reader facts =
     let old = reader_at core.readers reader in
-    same_hold config core reader (record { stage = looked core.seq core.slots old.stage; seen = core.journal }) facts
+    same_hold config core reader (record { stage = stage_after_look core.seq core.slots old.stage; seen = core.journal }) facts
     (looked-held core.seq core.slots old.stage)
     (looked-valid core.seq core.slots old.stage (facts.holders.found reader) (facts.validation reader))
     (starts_all core.journal)

@@ -14,11 +14,11 @@ use Rattle.lock_core.specs.declared.stage.SlotState.{SlotState}
 use Rattle.lock_core.specs.declared.stage.Stage.TheVariants.{Out}
 use Rattle.lock_core.specs.Core.{Reader, free_slot, gone_reader, holds}
 use Rattle.lock_core.specs.Rows.{attached_weight, Within, Exactly}
-use Rattle.lock_core.specs.Facts.{list_after, StaysValid, Facts}
+use Rattle.lock_core.specs.Facts.{list_after, StaysValid, LockFacts}
 use Rattle.lock_core.specs.States.{opening_core}
 use Rattle.lock_core.proofs.Holding.{IsFound}
 use Rattle.lock_core.proofs.Weighing.{shown_weight, weighs_within}
-use Rattle.lock_core.specs.Core.{held, StartsWith}
+use Rattle.lock_core.specs.Core.{slot_held, StartsWith}
 
 -- what is so of an element and of what is answered past the end is so of each of its copies
 each_copy : {A : Type 0} (P : A → Type 0) (count : ℕ) (x d : A) → P x → P d → (k : ℕ) → P (get_or (replicate count x) k d)
@@ -40,7 +40,7 @@ opening_within : (config : Config) (slots : ℕ) → Within 2 (replicate slots f
 opening_within config slots = weighs_within 2 (replicate slots free_slot) (list_after config [])
     (λ weight. let none = sum_by-replicate (shown_weight weight 2) slots free_slot in omega (arith, none))
 
-pub opening_facts : (config : Config) (readers slots : ℕ) → Facts config (opening_core readers slots)
+pub opening_facts : (config : Config) (readers slots : ℕ) → LockFacts config (opening_core readers slots)
 opening_facts config readers slots = record {
   sequence = record {
     counts = refl;
@@ -53,7 +53,7 @@ opening_facts config readers slots = record {
         each_copy (λ n. n ≡ 0) slots 0 0 refl refl slot
         ∙ sym (let none = sum_by-replicate (λ (r : Reader). cond (holds slot r) 1 0) readers (record { stage = Out; seen = [] }) in
         let nothing : count_by (holds slot) (replicate readers (record { stage = Out; seen = [] })) ≡ 0 = omega (arith, none) in nothing);
-    found = each_copy (λ (r : Reader). IsFound (replicate slots free_slot) (held r.stage)) readers (record { stage = Out; seen = [] }) gone_reader tt tt;
+    found = each_copy (λ (r : Reader). IsFound (replicate slots free_slot) (slot_held r.stage)) readers (record { stage = Out; seen = [] }) gone_reader tt tt;
   };
   rows = record {
     legal = record { replies = λ place entry there. absurd (cc) };

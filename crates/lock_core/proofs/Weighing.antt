@@ -12,7 +12,7 @@ use Rattle.mm_types.specs.declared.area.Record.{Record}
 use Rattle.mm_types.specs.Packed.{packed}
 use Rattle.lock_core.specs.declared.stage.SlotState.{SlotState}
 use Rattle.lock_core.specs.Core.{slot_at, free_slot}
-use Rattle.lock_core.specs.Rows.{is_detached, is_marked, shown_rows, IsRowOf, attached_weight, Within}
+use Rattle.lock_core.specs.Rows.{is_detached, is_marked, unmarked_rows, IsRowOf, attached_weight, Within}
 use Rattle.lock_core.proofs.Elements.{one_weighs, some_weighs}
 
 pub row_is_itself : (row : List ℕ) → pointwise nat_eq row row ≡ true
@@ -136,7 +136,7 @@ sum_by-unmarked weight seq (slot ∷ slots) =
     ]
 
 sum_by-shown : (weight : List ℕ → ℕ) (seq : ℕ) (slots : List SlotState)
-    → sum_by weight (shown_rows seq slots) ≡ sum_by (shown_weight weight seq) slots
+    → sum_by weight (unmarked_rows seq slots) ≡ sum_by (shown_weight weight seq) slots
 sum_by-shown weight seq slots =
     sum_by-attached weight (filter (λ slot. not (is_marked seq slot)) slots) ∙ sum_by-unmarked weight seq slots
 
@@ -146,14 +146,14 @@ within_weighs seq slots areas within weight =
     omega (
       arith,
       sum_by-shown weight seq slots,
-      sum_by-append weight (shown_rows seq slots) within.0,
-      sum_by-IsPermutation weight (shown_rows seq slots ++ within.0) (map packed areas) within.1,
+      sum_by-append weight (unmarked_rows seq slots) within.0,
+      sum_by-IsPermutation weight (unmarked_rows seq slots ++ within.0) (map packed areas) within.1,
       sum_by-packed weight areas,
     )
 
 -- and rows that weigh no more are such rows
 pub weighs_within : (seq : ℕ) (slots : List SlotState) (areas : List Record) → WeighsWithin seq slots areas → Within seq slots areas
-weighs_within seq slots areas weighs = among (shown_rows seq slots) (map packed areas)
+weighs_within seq slots areas weighs = among (unmarked_rows seq slots) (map packed areas)
     (λ weight. omega (arith, weighs weight, sum_by-shown weight seq slots, sum_by-packed weight areas))
 
 -- where the rows weigh no more than the list however rows are weighed, an attached row in a slot that is not marked shows an area of it

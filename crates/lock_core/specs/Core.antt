@@ -11,7 +11,7 @@ pub record Reader : Type 0 where
   pub seen : List Entry
 
 -- a state: the sequence, the slots, how many readers hold each, the readers, and the journal
-pub record Core : Type 0 where
+pub record LockCore : Type 0 where
   pub seq : ℕ
   pub slots : List SlotState
   pub counts : List ℕ
@@ -43,11 +43,11 @@ abbrev pub reader_at : List Reader → ℕ → Reader
 reader_at readers reader = slice_index_or readers reader gone_reader
 
 -- the slot that a reader holds, with the lock sequence that its add found there
-abbrev pub held : Stage → Option (ℕ × ℕ)
-held Out = None
-held (Holds slot found) = Some (slot, found)
-held (Valid slot found row) = Some (slot, found)
-held Gone = None
+abbrev pub slot_held : Stage → Option (ℕ × ℕ)
+slot_held Out = None
+slot_held (Holds slot found) = Some (slot, found)
+slot_held (Valid slot found row) = Some (slot, found)
+slot_held Gone = None
 
 -- whether it is this slot that is held
 abbrev pub is_slot : ℕ → Option (ℕ × ℕ) → Bool
@@ -56,7 +56,7 @@ is_slot slot None = false
 
 -- whether a reader holds this slot
 abbrev pub holds : ℕ → Reader → Bool
-holds slot reader = is_slot slot (held reader.stage)
+holds slot reader = is_slot slot (slot_held reader.stage)
 
 -- the list begins with these entries
 abbrev pub StartsWith : List Entry → List Entry → Type 0

@@ -7,7 +7,7 @@ use Rattle.area_rules.specs.Steps.{after, IsLegalJournal}
 use Rattle.lock_core.specs.declared.stage.SlotState.{SlotState}
 use Rattle.lock_core.specs.declared.stage.Stage.{Stage}
 use Rattle.lock_core.specs.declared.stage.Stage.TheVariants.{Out, Holds, Valid, Gone}
-use Rattle.lock_core.specs.Core.{Core, Reader, slot_at, count_at, reader_at, held, holds, StartsWith}
+use Rattle.lock_core.specs.Core.{LockCore, Reader, slot_at, count_at, reader_at, slot_held, holds, StartsWith}
 use Rattle.lock_core.specs.Rows.{Within, Exactly}
 
 -- the list of areas after a journal
@@ -26,7 +26,7 @@ pub record SequenceFact (seq : ℕ) (slots : List SlotState) (journal : List Ent
 pub record HoldersFact (slots : List SlotState) (counts : List ℕ) (readers : List Reader) : Type 0 where
   pub each_slot : length counts ≡ length slots
   pub counted : (slot : ℕ) → count_at counts slot ≡ count_by (holds slot) readers
-  pub found : (reader : ℕ) → IfSome (held (reader_at readers reader).stage)
+  pub found : (reader : ℕ) → IfSome (slot_held (reader_at readers reader).stage)
       (λ at. (at.0 < length slots) × ((slot_at slots at.0).lock_seq ≡ at.1))
 
 -- The journal is legal. The attached rows of slots that are not marked show areas of the list after the journal, no two the
@@ -53,7 +53,7 @@ abbrev pub SeenFact : List Reader → List Entry → Type 0
 SeenFact readers journal = (reader : ℕ) → StartsWith journal (reader_at readers reader).seen
 
 -- the five facts of a state
-pub record Facts (config : Config) (core : Core) : Type 0 where
+pub record LockFacts (config : Config) (core : LockCore) : Type 0 where
   pub sequence : SequenceFact core.seq core.slots core.journal
   pub holders : HoldersFact core.slots core.counts core.readers
   pub rows : RowsFact config core.seq core.slots core.journal

@@ -4,7 +4,7 @@ use Rattle.mm_types.specs.Config.{IsValidConfig}
 use Rattle.area_rules.specs.Steps.{after}
 use Rattle.area_rules.specs.Tables.{space_of}
 use Rattle.lock_core.specs.declared.state.LockState.TheInside.{Inside}
-use Rattle.lock_core.specs.Facts.{Facts}
+use Rattle.lock_core.specs.Facts.{LockFacts}
 use Rattle.lock_core.specs.States.{Lock}
 
 -- the state that the fields are
@@ -13,8 +13,8 @@ lock_of state = record { config = state.config; core = state.protocol }
 
 -- The configuration is valid, the five facts hold, the numbers of slots fit 32 bits, and list and counters are those after
 -- the journal.
-pub record IsKept (state : Inside) : Type 0 where
+pub record IsLockKept (state : Inside) : Type 0 where
   pub valid : IsValidConfig state.config
-  pub facts : Facts state.config state.protocol
+  pub facts : LockFacts state.config state.protocol
   pub few : length state.protocol.slots < 2 ^ 32
   pub space : space_of state.list state.counters ≡ after state.config state.protocol.journal

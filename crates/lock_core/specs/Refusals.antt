@@ -13,10 +13,10 @@ use Rattle.lock_core.specs.declared.events.StepRefusal.TheVariants.{NotOpen, Rea
 use Rattle.lock_core.specs.declared.stage.SlotState.{SlotState}
 use Rattle.lock_core.specs.declared.stage.Stage.{Stage}
 use Rattle.lock_core.specs.declared.stage.Stage.TheVariants.{Out, Holds, Valid, Gone}
-use Rattle.lock_core.specs.Core.{Core, slot_at, count_at, reader_at, held}
+use Rattle.lock_core.specs.Core.{LockCore, slot_at, count_at, reader_at, slot_held}
 use Rattle.lock_core.specs.Rows.{attached_rows, is_marked}
 use Rattle.lock_core.specs.Facts.{list_after}
-use Rattle.lock_core.specs.Events.{entry_of}
+use Rattle.lock_core.specs.Events.{entry_after}
 
 -- whether a reader is none: no reader has the number, or it was joined away
 abbrev pub is_gone : Stage → Bool
@@ -26,19 +26,19 @@ is_gone (Valid slot found row) = false
 is_gone Gone = true
 
 -- whether no reader has this number
-abbrev pub lacks_reader : Core → ℕ → Bool
+abbrev pub lacks_reader : LockCore → ℕ → Bool
 lacks_reader core reader = is_gone (reader_at core.readers reader).stage
 
 -- whether no slot has this number
-abbrev pub lacks_slot : Core → ℕ → Bool
+abbrev pub lacks_slot : LockCore → ℕ → Bool
 lacks_slot core slot = nat_le (length core.slots) slot
 
 -- whether a reader holds a slot
-abbrev pub is_holding : Core → ℕ → Bool
-is_holding core reader = is_some (held (reader_at core.readers reader).stage)
+abbrev pub is_holding : LockCore → ℕ → Bool
+is_holding core reader = is_some (slot_held (reader_at core.readers reader).stage)
 
 -- whether an event names a reader or a slot that there is not, or joins a reader into itself
-abbrev pub names_none : Core → LockEvent → Bool
+abbrev pub names_none : LockCore → LockEvent → Bool
 names_none core (Add reader slot) = lacks_reader core reader || lacks_slot core slot.0
 names_none core (Look reader) = lacks_reader core reader
 names_none core (Field reader field) = lacks_reader core reader
@@ -63,24 +63,24 @@ is_begin Begin = true
 is_begin _ = false
 
 -- whether an event needs a reader that holds a slot, where it holds none
-abbrev pub lacks_hold : Core → LockEvent → Bool
+abbrev pub lacks_hold : LockCore → LockEvent → Bool
 lacks_hold core (Field reader field) = not (is_holding core reader)
 lacks_hold core (Sub reader) = not (is_holding core reader)
 lacks_hold core _ = false
 
 -- whether an event needs a reader that holds nothing, where it holds a slot
-abbrev pub has_hold : Core → LockEvent → Bool
+abbrev pub has_hold : LockCore → LockEvent → Bool
 has_hold core (Add reader slot) = is_holding core reader
 has_hold core (Join first second) = is_holding core second
 has_hold core _ = false
 
 -- whether an event stores into a slot that is not marked
-abbrev pub stores_unmarked : Core → LockEvent → Bool
+abbrev pub stores_unmarked : LockCore → LockEvent → Bool
 stores_unmarked core (Store slot field word) = not (is_marked core.seq (slot_at core.slots slot.0))
 stores_unmarked core _ = false
 
 -- how many readers hold the slot that an event marks
-abbrev pub readers_left : Core → LockEvent → ℕ
+abbrev pub readers_left : LockCore → LockEvent → ℕ
 readers_left core (Mark slot) = count_at core.counts slot.0
 readers_left core _ = 0
 
@@ -99,14 +99,14 @@ first_difference (row ∷ rows) (other ∷ others) = if pointwise nat_eq row oth
 first_difference _ _ = Some 0
 
 -- where the rows differ from the list after the call that an event ends
-abbrev pub list_difference : Config → Core → LockEvent → Option ℕ
+abbrev pub list_difference : Config → LockCore → LockEvent → Option ℕ
 list_difference config core (End caller call) = first_difference (sorted_rows core.slots)
-    (map packed (list_after config (core.journal ++ entry_of config core.journal caller call ∷ [])))
+    (map packed (list_after config (core.journal ++ entry_after config core.journal caller call ∷ [])))
 list_difference config core _ = None
 
 -- why an event is refused, by the first row whose test holds; none where it is not refused
-unfoldable pub refusal : Config → Core → LockEvent → Option StepRefusal
-refusal config core event = let place = list_difference config core event in first_row (
+unfoldable pub lock_refusal : Config → LockCore → LockEvent → Option StepRefusal
+lock_refusal config core event = let place = list_difference config core event in first_row (
     (names_none core event, NoSlot)
     ∷ (needs_open event && nat_eq (core.seq % 2) 0, NotOpen)
     ∷ (is_begin event && nat_eq (core.seq % 2) 1, AlreadyOpen)

@@ -22,13 +22,13 @@ abbrev pub IsRowOf : List Record → List ℕ → Type 0
 IsRowOf areas row = (is_detached row ≡ true) ⊎ Contains (map packed areas) row
 
 -- the attached rows in slots that are not marked
-abbrev pub shown_rows : ℕ → List SlotState → List (List ℕ)
-shown_rows seq slots = attached_rows (filter (λ slot. not (is_marked seq slot)) slots)
+abbrev pub unmarked_rows : ℕ → List SlotState → List (List ℕ)
+unmarked_rows seq slots = attached_rows (filter (λ slot. not (is_marked seq slot)) slots)
 
 -- Each attached row in a slot that is not marked has the words of an area of the list, and two such rows those of two areas: with
 -- some others, these rows are the words of the list's areas in some order.
 abbrev pub Within : ℕ → List SlotState → List Record → Type 0
-Within seq slots areas = (others : List (List ℕ)) × IsPermutation (shown_rows seq slots ++ others) (map packed areas)
+Within seq slots areas = (others : List (List ℕ)) × IsPermutation (unmarked_rows seq slots ++ others) (map packed areas)
 
 -- what an attached row weighs; a detached one weighs nothing
 abbrev pub attached_weight : (List ℕ → ℕ) → SlotState → ℕ

@@ -6,7 +6,7 @@ ghost use Rattle.mm_types.specs.Records.{IsValid};
 ghost use Rattle.lock_core.specs.declared.events.LockEvent.TheVariants.{Add, Look, Field, Sub, Begin, Mark, Store, End, Split, Join};
 ghost use Rattle.lock_core.specs.declared.events.StepRefusal.TheVariants.{NotTheList, NoMemory};
 ghost use Rattle.lock_core.specs.Refusals.{first_difference};
-ghost use Rattle.lock_core.specs.States.{NamesField, IsDone, IsRefused, IsStep, HasRoom};
+ghost use Rattle.lock_core.specs.States.{NamesField, IsLockStepDone, IsLockStepRefused, IsLockStep, HasRoom};
 
 use crate::events::{LockAnswer, LockEvent, StepRefusal};
 use crate::rows::{first_difference, sorted_rows};
@@ -32,7 +32,7 @@ pub fn apply(
     requires entries { length state.core.journal < 2 ^ 31 }
     requires readers { length state.core.readers < 2 ^ 31 }
     requires field { NamesField event }
-    ensures { MatchResult result (λ done. IsDone state event done.0 done.1) (λ refused. IsRefused state event refused.0 refused.1) }
+    ensures { MatchResult result (λ done. IsLockStepDone state event done.0 done.1) (λ refused. IsLockStepRefused state event refused.0 refused.1) }
 {
     let mut state = state;
     match state.step(alloc, event) {
@@ -55,7 +55,7 @@ impl LockState {
     fn step(&mut self, alloc: Global, event: LockEvent) -> Result<LockAnswer, StepRefusal>
         requires room { HasRoom self.old }
         requires field { NamesField event }
-        ensures { IsStep self.old event result self.new }
+        ensures { IsLockStep self.old event result self.new }
     {
         match event {
             LockEvent::Add(reader, slot) => self.add(reader, slot),
@@ -71,10 +71,10 @@ impl LockState {
         }
     }
 
-    #[tactic(auto, unfolding(crate::specs::Refusals::refusal))]
+    #[tactic(auto, unfolding(crate::specs::Refusals::lock_refusal))]
     fn add(&mut self, reader: u32, slot: Slot) -> Result<LockAnswer, StepRefusal>
         requires room { HasRoom self.old }
-        ensures { IsStep self.old (Add reader slot) result self.new }
+        ensures { IsLockStep self.old (Add reader slot) result self.new }
     {
         if self.protocol.lacks_reader(reader) || self.protocol.lacks_slot(slot) {
             return Err(StepRefusal::NoSlot);
@@ -87,9 +87,9 @@ impl LockState {
         Ok(LockAnswer::Found(found))
     }
 
-    #[tactic(auto, unfolding(crate::specs::Refusals::refusal))]
+    #[tactic(auto, unfolding(crate::specs::Refusals::lock_refusal))]
     fn look(&mut self, reader: u32) -> Result<LockAnswer, StepRefusal>
-        ensures { IsStep self.old (Look reader) result self.new }
+        ensures { IsLockStep self.old (Look reader) result self.new }
     {
         if self.protocol.lacks_reader(reader) {
             return Err(StepRefusal::NoSlot);
@@ -106,10 +106,10 @@ impl LockState {
         }
     }
 
-    #[tactic(auto, unfolding(crate::specs::Refusals::refusal))]
+    #[tactic(auto, unfolding(crate::specs::Refusals::lock_refusal))]
     fn field(&mut self, reader: u32, field: u32) -> Result<LockAnswer, StepRefusal>
         requires { field < 4 }
-        ensures { IsStep self.old (Field reader field) result self.new }
+        ensures { IsLockStep self.old (Field reader field) result self.new }
     {
         if self.protocol.lacks_reader(reader) {
             return Err(StepRefusal::NoSlot);
@@ -123,9 +123,9 @@ impl LockState {
         }
     }
 
-    #[tactic(auto, unfolding(crate::specs::Refusals::refusal))]
+    #[tactic(auto, unfolding(crate::specs::Refusals::lock_refusal))]
     fn sub(&mut self, reader: u32) -> Result<LockAnswer, StepRefusal>
-        ensures { IsStep self.old (Sub reader) result self.new }
+        ensures { IsLockStep self.old (Sub reader) result self.new }
     {
         if self.protocol.lacks_reader(reader) {
             return Err(StepRefusal::NoSlot);
@@ -139,10 +139,10 @@ impl LockState {
         }
     }
 
-    #[tactic(auto, unfolding(crate::specs::Refusals::refusal))]
+    #[tactic(auto, unfolding(crate::specs::Refusals::lock_refusal))]
     fn begin(&mut self) -> Result<LockAnswer, StepRefusal>
         requires room { HasRoom self.old }
-        ensures { IsStep self.old Begin result self.new }
+        ensures { IsLockStep self.old Begin result self.new }
     {
         if self.protocol.is_open() {
             return Err(StepRefusal::AlreadyOpen);
@@ -151,9 +151,9 @@ impl LockState {
         Ok(LockAnswer::Done)
     }
 
-    #[tactic(auto, unfolding(crate::specs::Refusals::refusal))]
+    #[tactic(auto, unfolding(crate::specs::Refusals::lock_refusal))]
     fn mark_slot(&mut self, slot: Slot) -> Result<LockAnswer, StepRefusal>
-        ensures { IsStep self.old (Mark slot) result self.new }
+        ensures { IsLockStep self.old (Mark slot) result self.new }
     {
         if self.protocol.lacks_slot(slot) {
             return Err(StepRefusal::NoSlot);
@@ -169,10 +169,10 @@ impl LockState {
         Ok(LockAnswer::Done)
     }
 
-    #[tactic(auto, unfolding(crate::specs::Refusals::refusal))]
+    #[tactic(auto, unfolding(crate::specs::Refusals::lock_refusal))]
     fn store(&mut self, slot: Slot, field: u32, word: u64) -> Result<LockAnswer, StepRefusal>
         requires { field < 4 }
-        ensures { IsStep self.old (Store slot field word) result self.new }
+        ensures { IsLockStep self.old (Store slot field word) result self.new }
     {
         if self.protocol.lacks_slot(slot) {
             return Err(StepRefusal::NoSlot);
@@ -187,10 +187,10 @@ impl LockState {
         Ok(LockAnswer::Done)
     }
 
-    #[tactic(auto, unfolding(crate::specs::Refusals::refusal))]
+    #[tactic(auto, unfolding(crate::specs::Refusals::lock_refusal))]
     fn end(&mut self, alloc: Global, caller: u32, call: Call) -> Result<LockAnswer, StepRefusal>
         requires room { HasRoom self.old }
-        ensures { IsStep self.old (End caller call) result self.new }
+        ensures { IsLockStep self.old (End caller call) result self.new }
     {
         if !self.protocol.is_open() {
             return Err(StepRefusal::NotOpen);
@@ -211,10 +211,10 @@ impl LockState {
         Ok(LockAnswer::Done)
     }
 
-    #[tactic(auto, unfolding(crate::specs::Refusals::refusal))]
+    #[tactic(auto, unfolding(crate::specs::Refusals::lock_refusal))]
     fn split(&mut self, reader: u32) -> Result<LockAnswer, StepRefusal>
         requires room { HasRoom self.old }
-        ensures { IsStep self.old (Split reader) result self.new }
+        ensures { IsLockStep self.old (Split reader) result self.new }
     {
         if self.protocol.lacks_reader(reader) {
             return Err(StepRefusal::NoSlot);
@@ -224,9 +224,9 @@ impl LockState {
         Ok(LockAnswer::Made(made as u32))
     }
 
-    #[tactic(auto, unfolding(crate::specs::Refusals::refusal))]
+    #[tactic(auto, unfolding(crate::specs::Refusals::lock_refusal))]
     fn join(&mut self, first: u32, second: u32) -> Result<LockAnswer, StepRefusal>
-        ensures { IsStep self.old (Join first second) result self.new }
+        ensures { IsLockStep self.old (Join first second) result self.new }
     {
         if self.protocol.lacks_reader(first)
             || self.protocol.lacks_reader(second)

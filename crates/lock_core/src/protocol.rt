@@ -1,9 +1,9 @@
 ghost use Rattle.std.specs.Prelude.{◌≡◌, ◌<◌, ◌≤◌, ◌%◌, ◌^◌, nat_eq, IfOk, MatchResult, length};
-ghost use Rattle.lock_core.specs.Core.{slot_at, count_at, reader_at, held};
+ghost use Rattle.lock_core.specs.Core.{slot_at, count_at, reader_at, slot_held};
 ghost use Rattle.lock_core.specs.States.{opening_core};
-ghost use Rattle.lock_core.specs.Internal.Protocols.{reader_of};
+ghost use Rattle.lock_core.specs.Internal.Protocols.{reader_that_saw};
 ghost use Rattle.lock_core.specs.Refusals.{lacks_reader, lacks_slot};
-ghost use Rattle.lock_core.specs.Events.{after_add, after_look, after_sub, after_begin, after_mark, after_store, after_end, after_split, after_join, held_slot, looked};
+ghost use Rattle.lock_core.specs.Events.{after_add, after_look, after_sub, after_begin, after_mark, after_store, after_end, after_lock_split, after_lock_join, held_slot, stage_after_look};
 
 use crate::stage::{SlotState, Stage};
 use mm_types::{Entry, NoMemory, Slot};
@@ -40,13 +40,13 @@ pub(crate) struct LockProtocol {
 }
 
 impl Model for LockProtocol {
-    ghost use Rattle.lock_core.specs.Core.{Core};
+    ghost use Rattle.lock_core.specs.Core.{LockCore};
 
-    ghost Value = { Core };
+    ghost Value = { LockCore };
 
-    ghost use Rattle.lock_core.specs.Internal.Protocols.{core_of, AreSeen};
+    ghost use Rattle.lock_core.specs.Internal.Protocols.{lock_core_of, AreSeen};
 
-    ghost view = { core_of };
+    ghost view = { lock_core_of };
 
     ghost invariant = { AreSeen };
 }
@@ -137,7 +137,7 @@ impl LockProtocol {
 
     /// The slot that a reader holds, with the lock sequence that its add found there.
     pub(crate) fn held(&self, reader: u32) -> Option<(u32, u64)>
-        ensures { result ≡ held (reader_at self.now.readers reader).stage }
+        ensures { result ≡ slot_held (reader_at self.now.readers reader).stage }
     {
         match self.stage(reader) {
             Stage::Holds { slot, found } | Stage::Valid { slot, found, .. } => Some((slot, found)),
@@ -147,7 +147,7 @@ impl LockProtocol {
 
     /// A reader, with how many entries it has seen.
     fn reader(&self, reader: u32) -> ReaderState
-        ensures reader { reader_at self.now.readers reader ≡ reader_of self.now.journal result }
+        ensures reader { reader_at self.now.readers reader ≡ reader_that_saw self.now.journal result }
         ensures seen { result.seen ≤ length self.now.journal }
     {
         self.readers.get(reader as usize).copied().unwrap_or(GONE)
@@ -174,7 +174,7 @@ impl LockProtocol {
 
     /// Where a reader stands after a look.
     fn looked(&self, stage: Stage) -> Stage
-        ensures { result ≡ looked self.now.seq self.now.slots stage }
+        ensures { result ≡ stage_after_look self.now.seq self.now.slots stage }
     {
         match stage {
             Stage::Holds { slot, found } if found != self.seq => {
@@ -247,7 +247,7 @@ impl LockProtocol {
     /// Makes a reader that has seen what this one has.
     pub(crate) fn split(&mut self, reader: u32) -> Result<(), NoMemory>
         requires reader { reader < length self.old.readers }
-        ensures { MatchResult result (λ _. self.new ≡ after_split self.old reader) (λ _. self.new ≡ self.old) }
+        ensures { MatchResult result (λ _. self.new ≡ after_lock_split self.old reader) (λ _. self.new ≡ self.old) }
     {
         let seen = self.reader(reader).seen;
         let stage = Stage::Out;
@@ -259,7 +259,7 @@ impl LockProtocol {
     pub(crate) fn join(&mut self, first: u32, second: u32)
         requires first { first < length self.old.readers }
         requires second { second < length self.old.readers }
-        ensures { self.new ≡ after_join self.old first second }
+        ensures { self.new ≡ after_lock_join self.old first second }
     {
         let stage = self.stage(first);
         let seen = self.reader(first).seen.max(self.reader(second).seen);

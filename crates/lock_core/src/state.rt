@@ -1,7 +1,7 @@
 ghost use Rattle.std.specs.Prelude.{◌≡◌, ◌<◌, ◌^◌, IfOk, length};
 ghost use Rattle.mm_types.specs.Config.{IsValidConfig};
 ghost use Rattle.lock_core.specs.Core.{slot_at, count_at};
-ghost use Rattle.lock_core.specs.Facts.{Facts};
+ghost use Rattle.lock_core.specs.Facts.{LockFacts};
 ghost use Rattle.lock_core.specs.States.{opening_core};
 
 use crate::protocol::LockProtocol;
@@ -25,11 +25,11 @@ impl Model for LockState {
 
     ghost Value = { Lock };
 
-    ghost use Rattle.lock_core.specs.Kept.{lock_of, IsKept};
+    ghost use Rattle.lock_core.specs.Kept.{lock_of, IsLockKept};
 
     ghost view = { lock_of };
 
-    ghost invariant = { IsKept };
+    ghost invariant = { IsLockKept };
 }
 
 impl LockState {
@@ -59,7 +59,7 @@ impl LockState {
     pub fn seq(&self) -> u64
         ensures seq { result ≡ self.now.core.seq }
         ensures valid { IsValidConfig self.now.config }
-        ensures facts { Facts self.now.config self.now.core }
+        ensures facts { LockFacts self.now.config self.now.core }
     {
         self.protocol.seq()
     }

@@ -5,11 +5,11 @@ use Rattle.std.specs.Option.{option_or}
 use Rattle.std.proofs.lemmas.Bool.{cases_Bool}
 use Rattle.std.proofs.lemmas.Bool.Decides.{nat_tests}
 use Rattle.maple_node.specs.declared.item.NodeItem.{NodeItem}
-use Rattle.maple_node.specs.Nodes.{end_of, item_gap}
+use Rattle.maple_node.specs.Nodes.{items_end, item_gap}
 use Rattle.maple_gap.specs.declared.window.Side.{Side}
 use Rattle.maple_gap.specs.declared.window.Side.TheVariants.{Low, High}
 use Rattle.maple_gap.specs.declared.window.Window.{Window}
-use Rattle.maple_gap.specs.Internal.Searches.{may_have, edge, spot, pick, best}
+use Rattle.maple_gap.specs.Internal.Searches.{may_have_room, edge, spot, pick, best}
 
 -- one thing or another, where one of them is none
 pub or_none : (o : Option ℕ) → option_or o None ≡ o
@@ -55,12 +55,12 @@ pick_both High o p is = let both = or_both p o is in (both.1, both.0)
 
 -- entries after others
 pub best-append : (side : Side) (window : Window) (start : ℕ) (xs ys : List NodeItem)
-    → best side window start (xs ++ ys) ≡ pick side (best side window start xs) (best side window (end_of start xs) ys)
+    → best side window start (xs ++ ys) ≡ pick side (best side window start xs) (best side window (items_end start xs) ys)
 unfolding best
 best-append side window start [] ys = sym (pick_none side (best side window start ys))
 best-append side window start (x ∷ xs) ys =
     ap (pick side (spot side window start x)) (best-append side window x.end xs ys)
-    ∙ sym (pick_assoc side (spot side window start x) (best side window x.end xs) (best side window (end_of x.end xs) ys))
+    ∙ sym (pick_assoc side (spot side window start x) (best side window x.end xs) (best side window (items_end x.end xs) ys))
 
 -- in one entry
 pub best-one : (side : Side) (window : Window) (start : ℕ) (x : NodeItem) → best side window start (x ∷ []) ≡ spot side window start x
@@ -82,16 +82,16 @@ le_of a b is = grind (arith, nat_tests)
 of_le : (a b : ℕ) → a ≤ b → nat_le a b ≡ true
 of_le a b is = grind (arith, nat_tests)
 
-pub room_of : (window : Window) (leaf : Bool) (start : ℕ) (item : NodeItem) → may_have window leaf start item ≡ true → Room window leaf start item
-unfolding may_have
+pub room_of : (window : Window) (leaf : Bool) (start : ℕ) (item : NodeItem) → may_have_room window leaf start item ≡ true → Room window leaf start item
+unfolding may_have_room
 room_of window leaf start item is =
     let long = item_gap leaf start item in
     let part = min item.end window.hi - max start window.lo in
     let both = and_both (nat_le window.len long) (nat_le window.len part) is in
     record { gap = le_of window.len long both.0; part = le_of window.len part both.1 }
 
-pub of_room : (window : Window) (leaf : Bool) (start : ℕ) (item : NodeItem) → Room window leaf start item → may_have window leaf start item ≡ true
-unfolding may_have
+pub of_room : (window : Window) (leaf : Bool) (start : ℕ) (item : NodeItem) → Room window leaf start item → may_have_room window leaf start item ≡ true
+unfolding may_have_room
 of_room window leaf start item room =
     let long = item_gap leaf start item in
     let part = min item.end window.hi - max start window.lo in
@@ -103,7 +103,7 @@ pub record Touches (window : Window) (start : ℕ) (item : NodeItem) : Type 0 wh
   pub high : start < window.hi
   pub long : start + window.len ≤ item.end
 
-pub touches : (window : Window) (leaf : Bool) (start : ℕ) (item : NodeItem) → 1 ≤ window.len → may_have window leaf start item ≡ true → Touches window start item
+pub touches : (window : Window) (leaf : Bool) (start : ℕ) (item : NodeItem) → 1 ≤ window.len → may_have_room window leaf start item ≡ true → Touches window start item
 touches window leaf start item some is =
     let room = room_of window leaf start item is in
     let part = room.part in
@@ -122,24 +122,24 @@ edge_placed Low window start item some part = record { above = omega arith; with
 edge_placed High window start item some part = record { above = omega arith; within = omega arith; low = omega arith; high = omega arith }
 
 -- one entry: either it has room, or not
-pub spot_some : (side : Side) (window : Window) (start : ℕ) (item : NodeItem) → may_have window true start item ≡ true
+pub spot_some : (side : Side) (window : Window) (start : ℕ) (item : NodeItem) → may_have_room window true start item ≡ true
     → spot side window start item ≡ Some (edge side window start item)
 unfolding spot
 spot_some side window start item is = ap (λ b. if b then Some (edge side window start item) else None) is
 
-pub spot_none : (side : Side) (window : Window) (start : ℕ) (item : NodeItem) → may_have window true start item ≡ false
+pub spot_none : (side : Side) (window : Window) (start : ℕ) (item : NodeItem) → may_have_room window true start item ≡ false
     → spot side window start item ≡ None
 unfolding spot
 spot_none side window start item is = ap (λ b. if b then Some (edge side window start item) else None) is
 
 pub record Spot (side : Side) (window : Window) (start : ℕ) (item : NodeItem) (s : ℕ) : Type 0 where
-  pub may : may_have window true start item ≡ true
+  pub may : may_have_room window true start item ≡ true
   pub is : s ≡ edge side window start item
   pub placed : Placed window start item.end s
 
 pub spot_from : (side : Side) (window : Window) (start : ℕ) (item : NodeItem) (s : ℕ) → 1 ≤ window.len → spot side window start item ≡ Some s
     → Spot side window start item s
-spot_from side window start item s some is = elim (cases_Bool (may_have window true start item)) as (λ _. Spot side window start item s) [
+spot_from side window start item s some is = elim (cases_Bool (may_have_room window true start item)) as (λ _. Spot side window start item s) [
   | inl may ↦
       let told : Some s ≡ Some (edge side window start item) = sym is ∙ spot_some side window start item may in
       let same : s ≡ edge side window start item = cc in

@@ -4,7 +4,7 @@ use Rattle.std.specs.Prelude.{if◌then◌else◌}
 use Rattle.std.specs.Option.{option_or}
 use Rattle.std.proofs.lemmas.Bool.{cases_Bool}
 use Rattle.maple_node.specs.declared.item.NodeItem.{NodeItem}
-use Rattle.maple_node.specs.Nodes.{items_of, end_of}
+use Rattle.maple_node.specs.Nodes.{node_items, items_end}
 use Rattle.maple_node.specs.Levels.{AllFrom}
 use Rattle.maple_node.specs.declared.place.Place.{Place}
 use Rattle.maple_node.specs.Codec.{width_of, listed_at}
@@ -13,7 +13,7 @@ use Rattle.maple_gap.specs.declared.window.Side.{Side}
 use Rattle.maple_gap.specs.declared.window.Side.TheVariants.{Low, High}
 use Rattle.maple_gap.specs.declared.window.Window.{Window}
 use Rattle.maple_gap.specs.declared.window.Choice.{Choice}
-use Rattle.maple_gap.specs.Internal.Searches.{may_have, pick, chosen, chosen_from, IsFar}
+use Rattle.maple_gap.specs.Internal.Searches.{may_have_room, pick, chosen, chosen_from, IsFar}
 use Rattle.maple_gap.proofs.Best.{or_none, or_some, pick_none, pick_assoc, touches}
 use Rattle.maple_gap.proofs.Under.{over, Known}
 
@@ -23,15 +23,15 @@ After Low p q = p.item.end ≤ q.start
 After High p q = q.item.end ≤ p.start
 
 -- what comes after a place with room does not go beyond the edge where the search begins
-pub far_after : (side : Side) (window : Window) (a b : Bool) (p q : Place) → 1 ≤ window.len → may_have window a p.start p.item ≡ true → After side p q
+pub far_after : (side : Side) (window : Window) (a b : Bool) (p q : Place) → 1 ≤ window.len → may_have_room window a p.start p.item ≡ true → After side p q
     → IsFar side window q
 far_after Low window a b p q some may after = let is = (touches window a p.start p.item some may).low in omega arith
 far_after High window a b p q some may after = let is = (touches window a p.start p.item some may).high in omega arith
 
 -- what comes before a place with room, and does not go beyond that edge, has room
 pub found_before : (side : Side) (window : Window) (leaf other : Bool) (found : ℕ → NodeItem → Option ℕ) (q r : Place) → 1 ≤ window.len
-    → Known window leaf found q.start q.item → may_have window leaf q.start q.item ≡ true → IsFar side window q
-    → may_have window other r.start r.item ≡ true → After side q r → found q.start q.item ≡ None → ⊥
+    → Known window leaf found q.start q.item → may_have_room window leaf q.start q.item ≡ true → IsFar side window q
+    → may_have_room window other r.start r.item ≡ true → After side q r → found q.start q.item ≡ None → ⊥
 found_before Low window leaf other found q r some known may far room after none =
     let is = (touches window other r.start r.item some room).high in
     known.some may far (omega arith) none
@@ -42,7 +42,7 @@ found_before High window leaf other found q r some known may far room after none
 -- a place among items from one page up to another, that may have room
 pub record IsIn (window : Window) (leaf : Bool) (P : ℕ → NodeItem → Type 0) (begin page : ℕ) (place : Place) : Type 0 where
   pub known : P place.start place.item
-  pub may : may_have window leaf place.start place.item ≡ true
+  pub may : may_have_room window leaf place.start place.item ≡ true
   pub above : begin ≤ place.start
   pub within : place.item.end ≤ page
 
@@ -83,7 +83,7 @@ record Taken (side : Side) (window : Window) (leaf : Bool) (P : ℕ → NodeItem
 
 taken : (side : Side) (window : Window) (leaf : Bool) (P : ℕ → NodeItem → Type 0) (found : ℕ → NodeItem → Option ℕ) (begin page : ℕ) (first second : Option Place)
     (x : Place) → 1 ≤ window.len → ((start : ℕ) (item : NodeItem) → P start item → Known window leaf found start item)
-    → AreChosen side window leaf P begin page first second → x.start ≡ page → begin ≤ page → P x.start x.item → may_have window leaf x.start x.item ≡ true
+    → AreChosen side window leaf P begin page first second → x.start ≡ page → begin ≤ page → P x.start x.item → may_have_room window leaf x.start x.item ≡ true
     → Taken side window leaf P found begin page first second x
 taken side window leaf P found begin page None (Some q) x some all are at above known may = absurd are
 taken Low window leaf P found begin page None None x some all are at above known may = record {
@@ -152,7 +152,7 @@ pub record Chosen (side : Side) (window : Window) (leaf : Bool) (P : ℕ → Nod
 pub chosen_all : (side : Side) (window : Window) (leaf : Bool) (P : ℕ → NodeItem → Type 0) (found : ℕ → NodeItem → Option ℕ) (begin page : ℕ) (choice : Choice)
     (items : List NodeItem) → 1 ≤ window.len → ((start : ℕ) (item : NodeItem) → P start item → Known window leaf found start item)
     → AreChosen side window leaf P begin page choice.first choice.second → begin ≤ page → AllFrom P page items
-    → Chosen side window leaf P found begin (end_of page items) (told found choice.first choice.second) (over side found page items)
+    → Chosen side window leaf P found begin (items_end page items) (told found choice.first choice.second) (over side found page items)
     (chosen_from side window leaf choice page items)
 unfolding chosen_from
 chosen_all side window leaf P found begin page choice [] some all are above each = record { are = are; same = one side (told found choice.first choice.second) } where
@@ -166,9 +166,9 @@ chosen_all side window leaf P found begin page choice (x ∷ xs) some all are ab
     let rest = over side found x.end xs in
     let place : Place = record { start = page; item = x } in
     let more = chosen side choice place in
-    let Goal : Choice → Type 0 = λ c. Chosen side window leaf P found begin (end_of x.end xs) here (pick side (found page x) rest)
+    let Goal : Choice → Type 0 = λ c. Chosen side window leaf P found begin (items_end x.end xs) here (pick side (found page x) rest)
     (chosen_from side window leaf c x.end xs) in
-    elim (cases_Bool (may_have window leaf page x)) as (λ _. Goal (if may_have window leaf page x then more else choice)) [
+    elim (cases_Bool (may_have_room window leaf page x)) as (λ _. Goal (if may_have_room window leaf page x then more else choice)) [
       | inl may ↦
           let step = taken side window leaf P found begin page choice.first choice.second place some all are refl above each.0 may in
           let deep = chosen_all side window leaf P found begin x.end more xs some all step.are (omega arith) each.1 in
@@ -185,24 +185,24 @@ chosen_all side window leaf P found begin page choice (x ∷ xs) some all are ab
             same = ap (λ o. pick side here (pick side o rest)) none ∙ ap (pick side here) (pick_none side rest) ∙ deep.same;
           })
     ] where
-      nothing : (o : Option ℕ) → o ≡ found page x → may_have window leaf page x ≡ false → Known window leaf found page x → o ≡ None
+      nothing : (o : Option ℕ) → o ≡ found page x → may_have_room window leaf page x ≡ false → Known window leaf found page x → o ≡ None
       nothing None is out known = refl
       nothing (Some s) is out known = let may = known.room s (sym is) in absurd (cc)
 
 -- For `next_room` and `choose`: what is chosen with the item that is listed at a place, which may have room or may not
 pub chosen_step : (side : Side) (window : Window) (leaf : Bool) (choice : Choice) (page place : ℕ) (words : List ℕ) (fits : Bool)
-    → place + width_of leaf ≤ length words → get_or words place 0 ≢ 0 → may_have window leaf page (listed_at leaf words place) ≡ fits
-    → chosen_from side window leaf choice page (items_of leaf (drop place words))
+    → place + width_of leaf ≤ length words → get_or words place 0 ≢ 0 → may_have_room window leaf page (listed_at leaf words place) ≡ fits
+    → chosen_from side window leaf choice page (node_items leaf (drop place words))
     ≡ chosen_from side window leaf (if fits then chosen side choice (record { start = page; item = listed_at leaf words place }) else choice)
-    (listed_at leaf words place).end (items_of leaf (drop (place + width_of leaf) words))
+    (listed_at leaf words place).end (node_items leaf (drop (place + width_of leaf) words))
 unfolding chosen_from
 chosen_step side window leaf choice page place words fits room some is =
     ap (chosen_from side window leaf choice page) (listed_there leaf words place room some)
     ∙ ap (λ (b : Bool). chosen_from side window leaf (if b then chosen side choice (record { start = page; item = listed_at leaf words place }) else choice)
-    (listed_at leaf words place).end (items_of leaf (drop (place + width_of leaf) words))) is
+    (listed_at leaf words place).end (node_items leaf (drop (place + width_of leaf) words))) is
 
 -- and where none is listed
 pub chosen_none : (side : Side) (window : Window) (leaf : Bool) (choice : Choice) (page place : ℕ) (words : List ℕ)
-    → items_of leaf (drop place words) ≡ [] → chosen_from side window leaf choice page (items_of leaf (drop place words)) ≡ choice
+    → node_items leaf (drop place words) ≡ [] → chosen_from side window leaf choice page (node_items leaf (drop place words)) ≡ choice
 unfolding chosen_from
 chosen_none side window leaf choice page place words none = ap (chosen_from side window leaf choice page) none

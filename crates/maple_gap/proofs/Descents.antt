@@ -3,14 +3,14 @@ use Rattle.std.proofs.Common.{ℕ, suc, ◌≡◌, ◌≤◌, Bool, true, List, 
 use Rattle.std.specs.Prelude.{IfSome}
 use Rattle.std.specs.Option.{option_or}
 use Rattle.maple_node.specs.declared.item.NodeItem.{NodeItem}
-use Rattle.maple_node.specs.Levels.{is_leaf, read, level_of}
+use Rattle.maple_node.specs.Levels.{is_leaf, items_at, level_of}
 use Rattle.maple_node.specs.declared.place.Place.{Place}
 use Rattle.maple_gap.specs.declared.window.Side.{Side}
 use Rattle.maple_gap.specs.declared.window.Side.TheVariants.{Low, High}
 use Rattle.maple_gap.specs.declared.window.Window.{Window}
 use Rattle.maple_gap.specs.declared.window.Choice.{Choice}
 use Rattle.maple_gap.specs.declared.branch.Branch.{Branch}
-use Rattle.maple_gap.specs.Internal.Searches.{may_have, edge, nothing_chosen, chosen_from, IsUnder, IsBranch, best_under, best_of, spare_from, IsFar, IsSpare}
+use Rattle.maple_gap.specs.Internal.Searches.{may_have_room, edge, nothing_chosen, chosen_from, IsUnder, IsBranch, best_under, best_of, spare_from, IsFar, IsSpare}
 use Rattle.maple_gap.proofs.Best.{or_none, or_some, pick_none, best-one, spot_some}
 use Rattle.maple_gap.proofs.Under.{found_in, over, found-down, known_under}
 use Rattle.maple_gap.proofs.Choices.{After, IsIn, AreChosen, told, far_after, found_before, chosen_all}
@@ -21,7 +21,7 @@ pub record Seen (side : Side) (window : Window) (at : ℕ → List ℕ) (limit l
   pub same : found_in side window at (suc level) start item ≡ told (found_in side window at level) first second
 
 pub seen : (side : Side) (window : Window) (at : ℕ → List ℕ) (limit up level start : ℕ) (item : NodeItem) (leaf : Bool) (items : List NodeItem) (choice : Choice)
-    → 1 ≤ window.len → up ≡ suc level → IsUnder at limit up start item → leaf ≡ is_leaf level → items ≡ read at leaf item.word
+    → 1 ≤ window.len → up ≡ suc level → IsUnder at limit up start item → leaf ≡ is_leaf level → items ≡ items_at at leaf item.word
     → choice ≡ chosen_from side window leaf nothing_chosen start items → Seen side window at limit level start item choice.first choice.second
 unfolding IsUnder
 seen side window at limit up level start item leaf items choice some e above is_of are is = from (opened e above) where
@@ -31,13 +31,13 @@ seen side window at limit up level start item leaf items choice some e above is_
   from : IsUnder at limit (suc level) start item → Seen side window at limit level start item choice.first choice.second
   from under =
       let found = found_in side window at level in
-      let own = read at (is_leaf level) item.word in
+      let own = items_at at (is_leaf level) item.word in
       let all = chosen_all side window (is_leaf level) (IsUnder at limit level) found start start nothing_chosen own some
       (λ s x u. known_under side window at limit level s x some u) tt (omega arith) under.1 in
       let Told : Choice → Type 0 = λ c. Seen side window at limit level start item c.first c.second in
       let same : choice ≡ chosen_from side window (is_leaf level) nothing_chosen start own =
       is ∙ ap (chosen_from side window leaf nothing_chosen start) are
-      ∙ ap (λ (b : Bool). chosen_from side window b nothing_chosen start (read at b item.word)) is_of in
+      ∙ ap (λ (b : Bool). chosen_from side window b nothing_chosen start (items_at at b item.word)) is_of in
       let here : Told (chosen_from side window (is_leaf level) nothing_chosen start own) = record {
         are = subst (λ (p : ℕ). AreChosen side window (is_leaf level) (IsUnder at limit level) start p
             (chosen_from side window (is_leaf level) nothing_chosen start own).first (chosen_from side window (is_leaf level) nothing_chosen start own).second) under.0.until all.are;
@@ -54,14 +54,14 @@ IfSpare side window at from place (Some spare) = IsSpare side window at spare ×
 pub record Going (side : Side) (window : Window) (at : ℕ → List ℕ) (from branch : Branch) (spare : Option Branch) : Type 0 where
   pub limit : ℕ
   pub under : IsUnder at limit branch.level branch.place.start branch.place.item
-  pub may : may_have window (is_leaf branch.level) branch.place.start branch.place.item ≡ true
+  pub may : may_have_room window (is_leaf branch.level) branch.place.start branch.place.item ≡ true
   pub low : branch.level ≤ from.level
   pub sought : best_under side window at from ≡ option_or (best_under side window at branch) (best_of side window at spare)
   pub far : IsFar side window from.place → IsFar side window branch.place × (best_under side window at from ≡ best_under side window at branch)
   pub rest : IfSpare side window at from branch.place spare
 
 pub begun : (side : Side) (window : Window) (at : ℕ → List ℕ) (from : Branch) → IsBranch at from
-    → may_have window (is_leaf from.level) from.place.start from.place.item ≡ true → Going side window at from from None
+    → may_have_room window (is_leaf from.level) from.place.start from.place.item ≡ true → Going side window at from from None
 begun side window at from is may = record {
   limit = is.limit;
   under = is.under;
@@ -183,7 +183,7 @@ unfolding level_of
 ended side window at from branch spare going low =
     let start = branch.place.start in
     let item = branch.place.item in
-    let may : may_have window true start item ≡ true = ap (λ (n : ℕ). may_have window (is_leaf n) start item) (sym low) ∙ going.may in
+    let may : may_have_room window true start item ≡ true = ap (λ (n : ℕ). may_have_room window (is_leaf n) start item) (sym low) ∙ going.may in
     ap (λ (n : ℕ). found_in side window at n start item) low ∙ best-one side window start item ∙ spot_some side window start item may
 
 -- the spare branch as it is answered

@@ -5,13 +5,13 @@ use Rattle.std.proofs.lemmas.Bool.{cases_lt, cases_eq, cases_Bool}
 use Rattle.std.proofs.lemmas.Bool.Decides.{nat_tests}
 use Rattle.mm_types.specs.Searches.{is_clear_of}
 use Rattle.maple_node.specs.declared.item.NodeItem.{NodeItem}
-use Rattle.maple_node.specs.Nodes.{end_of, Ascends, item_gap}
+use Rattle.maple_node.specs.Nodes.{items_end, Ascends, item_gap}
 use Rattle.maple_node.specs.Trees.{Pair, pairs_from, ApartFrom}
 use Rattle.maple_gap.specs.declared.window.Side.{Side}
 use Rattle.maple_gap.specs.declared.window.Side.TheVariants.{Low, High}
 use Rattle.maple_gap.specs.declared.window.Window.{Window}
 use Rattle.maple_gap.specs.Gaps.{span_of, fits}
-use Rattle.maple_gap.specs.Internal.Searches.{may_have, edge, spot, pick, best, IsAnswer}
+use Rattle.maple_gap.specs.Internal.Searches.{may_have_room, edge, spot, pick, best, IsOutermost}
 use Rattle.maple_gap.proofs.Best.{room_of, of_room, Placed, spot_from, spot_some, spot_none}
 
 -- so many pages from a start on lie in a gap of entries that begin at a page, and in the window
@@ -34,13 +34,13 @@ no_gap : (start : ℕ) (x : NodeItem) → x.word ≢ 0 → item_gap true start x
 no_gap start x slot =
     let test : nat_eq x.word 0 ≡ false = grind (arith, nat_tests) in ap (λ b. if b then x.end - start else 0) test
 
-is_gap : (window : Window) (start : ℕ) (x : NodeItem) → 1 ≤ window.len → may_have window true start x ≡ true → x.word ≡ 0
+is_gap : (window : Window) (start : ℕ) (x : NodeItem) → 1 ≤ window.len → may_have_room window true start x ≡ true → x.word ≡ 0
 is_gap window start x some may = elim (cases_eq x.word 0) as (λ _. x.word ≡ 0) [
   | inl gap ↦ gap
   | inr slot ↦ let long = (room_of window true start x may).gap in let none = no_gap start x slot in absurd (omega arith)
 ]
 
-has_room : (window : Window) (start : ℕ) (x : NodeItem) (s : ℕ) → x.word ≡ 0 → Placed window start x.end s → may_have window true start x ≡ true
+has_room : (window : Window) (start : ℕ) (x : NodeItem) (s : ℕ) → x.word ≡ 0 → Placed window start x.end s → may_have_room window true start x ≡ true
 has_room window start x s gap is =
     let long = gap_of_entry start x gap in
     let a = is.above in
@@ -58,7 +58,7 @@ sought_entry : (side : Side) (window : Window) (start : ℕ) (x : NodeItem) → 
     → IsSought side (λ s. (x.word ≡ 0) × Placed window start x.end s) (spot side window start x)
 sought_entry side window start x some =
     let F : ℕ → Type 0 = λ s. (x.word ≡ 0) × Placed window start x.end s in
-    elim (cases_Bool (may_have window true start x)) as (λ _. IsSought side F (spot side window start x)) [
+    elim (cases_Bool (may_have_room window true start x)) as (λ _. IsSought side F (spot side window start x)) [
       | inl may ↦
           let is = spot_some side window start x may in
           let here = (spot_from side window start x (edge side window start x) some is).placed in
@@ -194,7 +194,7 @@ fits_free window start (x ∷ xs) s ascends is = elim is as (λ _. is_clear_of (
 
 -- and free pages lie in one gap, since two gaps never follow each other
 free_fits : (window : Window) (before start : ℕ) (xs : List NodeItem) (s : ℕ) → 1 ≤ window.len → Ascends start xs → ApartFrom before xs → start ≤ s
-    → window.lo ≤ s → s + window.len ≤ window.hi → window.hi ≤ end_of start xs → is_clear_of (map span_of (pairs_from start xs)) window.len s ≡ true
+    → window.lo ≤ s → s + window.len ≤ window.hi → window.hi ≤ items_end start xs → is_clear_of (map span_of (pairs_from start xs)) window.len s ≡ true
     → FitsIn window start xs s
 free_fits window before start [] s some ascends apart above low high limit free = absurd (omega arith)
 free_fits window before start (x ∷ xs) s some ascends apart above low high limit free =
@@ -216,7 +216,7 @@ free_fits window before start (x ∷ xs) s some ascends apart above low high lim
             },
           )
     ] where
-      whole : (xs : List NodeItem) → Ascends x.end xs → ApartFrom x.word xs → window.hi ≤ end_of x.end xs → x.word ≡ 0 → s < x.end
+      whole : (xs : List NodeItem) → Ascends x.end xs → ApartFrom x.word xs → window.hi ≤ items_end x.end xs → x.word ≡ 0 → s < x.end
           → is_clear_of (map span_of (pairs_from x.end xs)) window.len s ≡ true → s + window.len ≤ x.end
       whole [] ascends apart limit gap within free = omega arith
       whole (y ∷ ys) ascends apart limit gap within free =
@@ -245,7 +245,7 @@ pub record Same (window : Window) (entries : List NodeItem) : Type 0 where
   pub free : (s : ℕ) → FitsIn window 0 entries s → fits (pairs_from 0 entries) window.len window.lo window.hi s ≡ true
   pub lies : (s : ℕ) → fits (pairs_from 0 entries) window.len window.lo window.hi s ≡ true → FitsIn window 0 entries s
 
-same_fits : (window : Window) (entries : List NodeItem) → 1 ≤ window.len → Ascends 0 entries → ApartFrom 1 entries → window.hi ≤ end_of 0 entries
+same_fits : (window : Window) (entries : List NodeItem) → 1 ≤ window.len → Ascends 0 entries → ApartFrom 1 entries → window.hi ≤ items_end 0 entries
     → Same window entries
 same_fits window entries some ascends apart limit = record {
   free = λ s is.
@@ -261,7 +261,7 @@ not_true true none = absurd (none refl)
 not_true false none = refl
 
 to_answer : (side : Side) (F : ℕ → Type 0) (passes : ℕ → Bool) (result : Option ℕ) → ((s : ℕ) → F s → passes s ≡ true)
-    → ((s : ℕ) → passes s ≡ true → F s) → IsSought side F result → IsAnswer side passes result
+    → ((s : ℕ) → passes s ≡ true → F s) → IsSought side F result → IsOutermost side passes result
 to_answer Low F passes None to from is = λ s. not_true (passes s) (λ pass. is s (from s pass))
 to_answer High F passes None to from is = λ s. not_true (passes s) (λ pass. is s (from s pass))
 to_answer Low F passes (Some b) to from is = record {
@@ -274,7 +274,7 @@ to_answer High F passes (Some b) to from is = record {
 }
 
 pub answer_of : (side : Side) (window : Window) (entries : List NodeItem) → 1 ≤ window.len → Ascends 0 entries → ApartFrom 1 entries
-    → window.hi ≤ end_of 0 entries → IsAnswer side (fits (pairs_from 0 entries) window.len window.lo window.hi) (best side window 0 entries)
+    → window.hi ≤ items_end 0 entries → IsOutermost side (fits (pairs_from 0 entries) window.len window.lo window.hi) (best side window 0 entries)
 answer_of side window entries some ascends apart limit =
     let same = same_fits window entries some ascends apart limit in
     to_answer side (FitsIn window 0 entries) (fits (pairs_from 0 entries) window.len window.lo window.hi) (best side window 0 entries)

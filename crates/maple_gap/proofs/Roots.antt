@@ -6,14 +6,14 @@ use Rattle.std.proofs.lemmas.Bool.Decides.{nat_tests}
 use Rattle.std.proofs.lemmas.List.Elements.{All-weaker, All-cons, All-nil}
 use Rattle.maple_node.specs.declared.item.NodeItem.{NodeItem}
 use Rattle.maple_node.specs.Nodes.{leaf_items, Ascends, gap_of}
-use Rattle.maple_node.specs.Levels.{is_leaf, read, below, AllFrom, IsNode, level_of, IsTower}
+use Rattle.maple_node.specs.Levels.{is_leaf, items_at, below, AllFrom, IsNode, level_of, IsTower}
 use Rattle.maple_node.specs.Trees.{pairs_from, entries_of, ApartFrom}
 use Rattle.maple_node.proofs.Trees.{limit_above}
 use Rattle.maple_node.proofs.Levels.{below-ascends}
 use Rattle.maple_node.proofs.ItemLists.{AllFrom-left, AllFrom-right}
 use Rattle.node_slots.specs.declared.tree.Tree.{Tree as View}
 use Rattle.node_slots.specs.declared.seats.NodeWriter.{NodeWriter}
-use Rattle.node_slots.specs.Seats.{sight, row_count}
+use Rattle.node_slots.specs.Seats.{node_sight, row_count}
 use Rattle.node_slots.specs.Built.{words_at, built, IsBuilt, IsWriters}
 use Rattle.maple_gap.specs.declared.branch.Branch.{Branch}
 use Rattle.maple_gap.specs.Internal.Searches.{IsUnder, IsBranch, with_gap, IsAnyBranch, IsRootOf}
@@ -22,10 +22,10 @@ use Rattle.maple_gap.proofs.Under.{entries_any}
 
 -- nodes, under each of which all is so
 split : (at : ℕ → List ℕ) (leaf : Bool) (limit : ℕ) (P : ℕ → NodeItem → Type 0) (start : ℕ) (items : List NodeItem) → AllFrom (IsNode at leaf limit) start items
-    → AllFrom P start (below at leaf items) → AllFrom (λ s item. IsNode at leaf limit s item × AllFrom P s (read at leaf item.word)) start items
+    → AllFrom P start (below at leaf items) → AllFrom (λ s item. IsNode at leaf limit s item × AllFrom P s (items_at at leaf item.word)) start items
 split at leaf limit P start [] nodes all = tt
 split at leaf limit P start (x ∷ xs) nodes all =
-    let here = read at leaf x.word in
+    let here = items_at at leaf x.word in
     let others = below at leaf xs in
     let later : AllFrom P x.end others = subst (λ (p : ℕ). AllFrom P p others) nodes.0.until (AllFrom-right P start here others all) in
     ((nodes.0, AllFrom-left P start here others all), split at leaf limit P x.end xs nodes.1 later)
@@ -47,19 +47,19 @@ tower_under at limit (suc level) items ascends tower =
     (tower_under at limit level (below at (is_leaf level) items) (below-ascends at (is_leaf level) limit 0 items nodes) rest)
 
 -- words of entries have at most 33 bits
-few_words : (writer : NodeWriter) (entries : List NodeItem) → All (λ entry. entry.word ≤ (sight writer).size.slots) entries
+few_words : (writer : NodeWriter) (entries : List NodeItem) → All (λ entry. entry.word ≤ (node_sight writer).size.slots) entries
     → All (λ entry. entry.word ≤ 2 ^ 32) entries
 few_words writer entries few =
     let size = ap (λ s. s.slots) writer.writer_state.kept.size_is in
     let bound = writer.writer_state.table.sized.few_slots in
-    All-weaker (λ (entry : NodeItem). entry.word ≤ (sight writer).size.slots) (λ (entry : NodeItem). entry.word ≤ 2 ^ 32) (λ entry is. omega arith) entries few
+    All-weaker (λ (entry : NodeItem). entry.word ≤ (node_sight writer).size.slots) (λ (entry : NodeItem). entry.word ≤ 2 ^ 32) (λ entry is. omega arith) entries few
 
 -- the whole of a tree that was built is under its root
 top_under : (writer : NodeWriter) (tree : View) → IsBuilt writer tree
     → IsUnder (words_at writer) (built writer tree).top.end tree.height 0 (built writer tree).top
 top_under writer tree made =
     let top = (built writer tree).top in
-    let past = limit_above (words_at writer) (sight writer).size.slots (built writer tree) made.layout in
+    let past = limit_above (words_at writer) (node_sight writer).size.slots (built writer tree) made.layout in
     (tower_under (words_at writer) top.end tree.height (top ∷ []) (past, tt) made.layout.tower).0
 
 top_node : (writer : NodeWriter) (tree : View) → IsBuilt writer tree
@@ -69,21 +69,21 @@ top_node writer tree made =
     node_under (words_at writer) (built writer tree).top.end tree.height (tree.height - 1) 0 (built writer tree).top (omega arith) (top_under writer tree made)
 
 -- tree 0 lists nothing
-blank_at : (at : ℕ → List ℕ) → at 0 ≡ replicate 32 0 → read at true 0 ≡ []
+blank_at : (at : ℕ → List ℕ) → at 0 ≡ replicate 32 0 → items_at at true 0 ≡ []
 unfolding leaf_items
 blank_at at zeros = ap (λ (words : List ℕ). leaf_items words) zeros
 
-blank_tree : (at : ℕ → List ℕ) (height root : ℕ) → height ≡ 1 → root ≡ 0 → at 0 ≡ replicate 32 0 → read at (is_leaf (height - 1)) root ≡ []
+blank_tree : (at : ℕ → List ℕ) (height root : ℕ) → height ≡ 1 → root ≡ 0 → at 0 ≡ replicate 32 0 → items_at at (is_leaf (height - 1)) root ≡ []
 blank_tree at height root one none zeros =
-    subst (λ (h : ℕ). read at (is_leaf (h - 1)) root ≡ []) (sym one)
-    (subst (λ (r : ℕ). read at true r ≡ []) (sym none) (blank_at at zeros))
+    subst (λ (h : ℕ). items_at at (is_leaf (h - 1)) root ≡ []) (sym one)
+    (subst (λ (r : ℕ). items_at at true r ≡ []) (sym none) (blank_at at zeros))
 
 blank_entries : (at : ℕ → List ℕ) (height : ℕ) (top : NodeItem) → height ≡ 1 → top.word ≡ 0 → at 0 ≡ replicate 32 0
     → entries_of at (record { top = top; height = height }) ≡ []
 unfolding level_of
 blank_entries at height top one none zeros =
     ap (λ (h : ℕ). level_of at 0 h (top ∷ [])) one
-    ∙ ap (λ (r : ℕ). read at true r ++ []) none
+    ∙ ap (λ (r : ℕ). items_at at true r ++ []) none
     ∙ ap (λ (xs : List NodeItem). xs ++ []) (blank_at at zeros)
 
 -- the root lies in a row of the table
@@ -98,7 +98,7 @@ root_there writer tree is = elim is as (λ _. tree.root.0 < row_count writer) [
 
 -- a tree without entries is one gap
 pub gap_root : (writer : NodeWriter) (tree : View) (items : List NodeItem) → IsWriters writer tree
-    → items ≡ read (words_at writer) (is_leaf (tree.height - 1)) tree.root.0 → length items ≡ 0
+    → items ≡ items_at (words_at writer) (is_leaf (tree.height - 1)) tree.root.0 → length items ≡ 0
     → IsRootOf writer tree (record { place = record { start = 0; item = record { end = tree.limit.0; word = 0; gap = 0 } }; level = 0 })
 unfolding IsUnder level_of
 gap_root writer tree items is are none =
@@ -121,7 +121,7 @@ gap_root writer tree items is are none =
 
 -- and another one is what its root lists
 pub whole_root : (writer : NodeWriter) (tree : View) (items : List NodeItem) (row : ℕ) → IsWriters writer tree
-    → items ≡ read (words_at writer) (is_leaf (tree.height - 1)) tree.root.0 → (length items ≡ 0 → ⊥) → row ≡ tree.root.0
+    → items ≡ items_at (words_at writer) (is_leaf (tree.height - 1)) tree.root.0 → (length items ≡ 0 → ⊥) → row ≡ tree.root.0
     → IsRootOf writer tree (record { place = record { start = 0; item = record { end = tree.limit.0; word = row; gap = 0 } }; level = tree.height })
 whole_root writer tree items row is are some here =
     let At : NodeItem → Type 0 = λ x. IsRootOf writer tree (record { place = record { start = 0; item = x }; level = tree.height }) in
@@ -179,13 +179,13 @@ pub record Gapped (writer : NodeWriter) (tree : View) (branch : Branch) : Type 0
   pub right : IsBranch (words_at writer) branch
 
 pub gapped : (writer : NodeWriter) (tree : View) (root : Branch) (leaf : Bool) (items : List NodeItem) (gap : ℕ) → IsRootOf writer tree root → 1 ≤ root.level
-    → leaf ≡ is_leaf (root.level - 1) → items ≡ read (words_at writer) leaf root.place.item.word → gap ≡ gap_of leaf root.place.start items
+    → leaf ≡ is_leaf (root.level - 1) → items ≡ items_at (words_at writer) leaf root.place.item.word → gap ≡ gap_of leaf root.place.start items
     → Gapped writer tree (record { place = record { start = root.place.start; item = with_gap gap root.place.item }; level = root.level })
 gapped writer tree root leaf items gap is above below are largest =
     let at = words_at writer in
     let item = root.place.item in
     let start = root.place.start in
-    let told : gap ≡ is.branch.gap = largest ∙ ap (gap_of leaf start) are ∙ ap (λ (b : Bool). gap_of b start (read at b item.word)) below
+    let told : gap ≡ is.branch.gap = largest ∙ ap (gap_of leaf start) are ∙ ap (λ (b : Bool). gap_of b start (items_at at b item.word)) below
     ∙ (any_node at root is.branch above).gap in
     let under = subst (λ (g : ℕ). IsUnder at is.branch.limit root.level start (with_gap g item)) (sym told) is.branch.under in
     let same = entries_any at root.level gap item above in

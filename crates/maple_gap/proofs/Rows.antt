@@ -3,15 +3,15 @@ use Rattle.std.proofs.Common.{ℕ, suc, ◌≡◌, ◌<◌, Bool, true, false, L
 use Rattle.std.proofs.lemmas.Bool.{cases_lt}
 use Rattle.std.proofs.lemmas.List.{get_or_past}
 use Rattle.maple_node.specs.declared.item.NodeItem.{NodeItem}
-use Rattle.maple_node.specs.Nodes.{items_of, leaf_items, inner_items}
-use Rattle.maple_node.specs.Levels.{is_leaf, at_of, read, IsNode}
+use Rattle.maple_node.specs.Nodes.{node_items, leaf_items, inner_items}
+use Rattle.maple_node.specs.Levels.{is_leaf, at_of, items_at, IsNode}
 use Rattle.node_slots.specs.declared.seats.NodeWriter.{NodeWriter}
 use Rattle.node_slots.specs.Seats.{writer_state, row_count}
 use Rattle.node_slots.specs.Built.{words_at}
 use Rattle.maple_gap.specs.Internal.Searches.{IsUnder}
 
 -- no words list no items
-no_items : (leaf : Bool) → items_of leaf [] ≡ []
+no_items : (leaf : Bool) → node_items leaf [] ≡ []
 unfolding leaf_items inner_items
 no_items true = refl
 no_items false = refl
@@ -21,7 +21,7 @@ row_there : (rows : List (List ℕ)) (leaf : Bool) (limit start : ℕ) (item : N
 row_there rows leaf limit start item node = elim (cases_lt item.word (length rows)) as (λ _. item.word < length rows) [
   | inl within ↦ within
   | inr past ↦
-      let none : read (at_of rows) leaf item.word ≡ [] = ap (items_of leaf) (get_or_past rows item.word [] past) ∙ no_items leaf in
+      let none : items_at (at_of rows) leaf item.word ≡ [] = ap (node_items leaf) (get_or_past rows item.word [] past) ∙ no_items leaf in
       let long = ap (λ (xs : List NodeItem). length xs) none in
       let some = node.some in
       absurd (omega arith)

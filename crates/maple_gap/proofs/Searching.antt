@@ -3,7 +3,7 @@ use Rattle.std.proofs.Common.{ℕ, ◌≡◌, ◌≤◌, true, false, List, Opti
 use Rattle.std.specs.Prelude.{is_some, IfSome}
 use Rattle.std.specs.Option.{option_or}
 use Rattle.maple_node.specs.declared.item.NodeItem.{NodeItem}
-use Rattle.maple_node.specs.Nodes.{end_of, Ascends}
+use Rattle.maple_node.specs.Nodes.{items_end, Ascends}
 use Rattle.maple_node.specs.Levels.{is_leaf}
 use Rattle.maple_node.specs.Trees.{Pair, pairs_from}
 use Rattle.node_slots.specs.declared.tree.Tree.{Tree}
@@ -13,14 +13,14 @@ use Rattle.maple_gap.specs.declared.window.Side.{Side}
 use Rattle.maple_gap.specs.declared.window.Window.{Window}
 use Rattle.maple_gap.specs.declared.branch.Branch.{Branch}
 use Rattle.maple_gap.specs.Gaps.{fits}
-use Rattle.maple_gap.specs.Internal.Searches.{may_have, best, entries_under, best_under, IsBranch, IsSpare, IsRootOf, IsAnswer}
+use Rattle.maple_gap.specs.Internal.Searches.{may_have_room, best, entries_under, best_under, IsBranch, IsSpare, IsRootOf, IsOutermost}
 use Rattle.maple_gap.proofs.Under.{spread_any, found_in, Known, known_under}
 use Rattle.maple_gap.proofs.Free.{answer_of}
 
 -- the entries of the whole tree
 pub record Entries (limit : ℕ) (entries : List NodeItem) : Type 0 where
   pub ascends : Ascends 0 entries
-  pub ending : end_of 0 entries ≡ limit
+  pub ending : items_end 0 entries ≡ limit
 
 pub entries_of_root : (writer : NodeWriter) (tree : Tree) (root : Branch) → IsRootOf writer tree root
     → Entries tree.limit.0 (entries_under (words_at writer) root)
@@ -30,12 +30,12 @@ entries_of_root writer tree root is =
     let entries = entries_under at root in
     record {
       ascends = subst (λ (p : ℕ). Ascends p entries) is.begin all.ascends;
-      ending = sym (ap (λ (p : ℕ). end_of p entries) is.begin) ∙ all.ending ∙ is.limit;
+      ending = sym (ap (λ (p : ℕ). items_end p entries) is.begin) ∙ all.ending ∙ is.limit;
     }
 
 pub answered : (side : Side) (window : Window) (writer : NodeWriter) (tree : Tree) (root : Branch) (result : Option ℕ) → IsRootOf writer tree root
     → 1 ≤ window.len → window.hi ≤ tree.limit.0 → best_under side window (words_at writer) root ≡ result
-    → IsAnswer side (fits (pairs_now writer tree) window.len window.lo window.hi) result
+    → IsOutermost side (fits (pairs_now writer tree) window.len window.lo window.hi) result
 answered side window writer tree root result is some limit told =
     let at = words_at writer in
     let entries = entries_under at root in
@@ -43,12 +43,12 @@ answered side window writer tree root result is some limit told =
     let ending = all.ending in
     let here = answer_of side window entries some all.ascends is.apart (omega arith) in
     let from : best side window 0 entries ≡ result = sym (ap (λ (p : ℕ). best side window p entries) is.begin) ∙ told in
-    let Of : List Pair → Type 0 = λ pairs. IsAnswer side (fits pairs window.len window.lo window.hi) result in
-    subst Of is.pairs (subst (λ (o : Option ℕ). IsAnswer side (fits (pairs_from 0 entries) window.len window.lo window.hi) o) from here)
+    let Of : List Pair → Type 0 = λ pairs. IsOutermost side (fits pairs window.len window.lo window.hi) result in
+    subst Of is.pairs (subst (λ (o : Option ℕ). IsOutermost side (fits (pairs_from 0 entries) window.len window.lo window.hi) o) from here)
 
 -- nothing is under a root that may have no room
 pub no_room : (side : Side) (window : Window) (at : ℕ → List ℕ) (root : Branch) → IsBranch at root → 1 ≤ window.len
-    → may_have window (is_leaf root.level) root.place.start root.place.item ≡ false → best_under side window at root ≡ None
+    → may_have_room window (is_leaf root.level) root.place.start root.place.item ≡ false → best_under side window at root ≡ None
 no_room side window at root is some out = go (best_under side window at root) refl where
   known : Known window (is_leaf root.level) (found_in side window at root.level) root.place.start root.place.item
   known = known_under side window at is.limit root.level root.place.start root.place.item some is.under

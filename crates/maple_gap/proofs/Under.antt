@@ -5,13 +5,13 @@ use Rattle.std.proofs.lemmas.Bool.{cases_lt}
 use Rattle.std.proofs.lemmas.Bool.Decides.{nat_tests}
 use Rattle.std.proofs.lemmas.Grind.{flat_map-append}
 use Rattle.maple_node.specs.declared.item.NodeItem.{NodeItem}
-use Rattle.maple_node.specs.Nodes.{end_of, Ascends, item_gap, gap_of}
-use Rattle.maple_node.specs.Levels.{is_leaf, read, below, AllFrom, level_of}
+use Rattle.maple_node.specs.Nodes.{items_end, Ascends, item_gap, gap_of}
+use Rattle.maple_node.specs.Levels.{is_leaf, items_at, below, AllFrom, level_of}
 use Rattle.maple_node.proofs.Lists.{end_of-append, Ascends-append, ends_above}
 use Rattle.maple_node.proofs.Levels.{node_past}
 use Rattle.maple_gap.specs.declared.window.Side.{Side}
 use Rattle.maple_gap.specs.declared.window.Window.{Window}
-use Rattle.maple_gap.specs.Internal.Searches.{may_have, pick, best, spot, IsUnder, with_gap}
+use Rattle.maple_gap.specs.Internal.Searches.{may_have_room, pick, best, spot, IsUnder, with_gap}
 use Rattle.maple_gap.proofs.Best.{pick_from, pick_both, best-append, best-one, room_of, of_room, Placed, spot_from, spot_some}
 
 -- the entries under joined items, under none, and under a node
@@ -20,7 +20,7 @@ unfolding level_of
 level_of-append at low zero xs ys = refl
 level_of-append at low (suc up) xs ys =
     let leaf = is_leaf (low + up) in
-    ap (level_of at low up) (flat_map-append (λ (item : NodeItem). read at leaf item.word) xs ys)
+    ap (level_of at low up) (flat_map-append (λ (item : NodeItem). items_at at leaf item.word) xs ys)
     ∙ level_of-append at low up (below at leaf xs) (below at leaf ys)
 
 pub level_of-nil : (at : ℕ → List ℕ) (low up : ℕ) → level_of at low up [] ≡ []
@@ -29,12 +29,12 @@ level_of-nil at low zero = refl
 level_of-nil at low (suc up) = level_of-nil at low up
 
 pub entries-down : (at : ℕ → List ℕ) (level : ℕ) (item : NodeItem)
-    → level_of at 0 (suc level) (item ∷ []) ≡ level_of at 0 level (read at (is_leaf level) item.word)
+    → level_of at 0 (suc level) (item ∷ []) ≡ level_of at 0 level (items_at at (is_leaf level) item.word)
 unfolding level_of
 entries-down at level item =
     let e : 0 + level ≡ level = omega arith in
-    ap (λ (n : ℕ). level_of at 0 level (read at (is_leaf n) item.word ++ [])) e
-    ∙ ap (level_of at 0 level) (append-nil (read at (is_leaf level) item.word))
+    ap (λ (n : ℕ). level_of at 0 level (items_at at (is_leaf n) item.word ++ [])) e
+    ∙ ap (level_of at 0 level) (append-nil (items_at at (is_leaf level) item.word))
 
 pub inner : (level : ℕ) → is_leaf (suc level) ≡ false
 inner level = grind (arith, nat_tests)
@@ -52,11 +52,11 @@ under-ascends at limit level start (x ∷ xs) all = (under_past at limit level s
 -- the entries under an item ascend from where it begins, and end where it does
 pub record Spread (start end : ℕ) (entries : List NodeItem) : Type 0 where
   pub ascends : Ascends start entries
-  pub ending : end_of start entries ≡ end
+  pub ending : items_end start entries ≡ end
 
 spread_all : (at : ℕ → List ℕ) (limit level : ℕ)
     → ((start : ℕ) (item : NodeItem) → IsUnder at limit level start item → Spread start item.end (level_of at 0 level (item ∷ [])))
-    → (start : ℕ) (items : List NodeItem) → AllFrom (IsUnder at limit level) start items → Spread start (end_of start items) (level_of at 0 level items)
+    → (start : ℕ) (items : List NodeItem) → AllFrom (IsUnder at limit level) start items → Spread start (items_end start items) (level_of at 0 level items)
 spread_all at limit level one start [] all =
     subst (λ (es : List NodeItem). Spread start start es) (sym (level_of-nil at 0 level)) (record { ascends = tt; ending = refl })
 spread_all at limit level one start (x ∷ xs) all =
@@ -64,18 +64,18 @@ spread_all at limit level one start (x ∷ xs) all =
     let rest = spread_all at limit level one x.end xs all.1 in
     let first = level_of at 0 level (x ∷ []) in
     let others = level_of at 0 level xs in
-    let joined : Spread start (end_of x.end xs) (first ++ others) = record {
+    let joined : Spread start (items_end x.end xs) (first ++ others) = record {
       ascends = Ascends-append start first others here.ascends (subst (λ (p : ℕ). Ascends p others) (sym here.ending) rest.ascends);
-      ending = end_of-append start first others ∙ ap (λ (p : ℕ). end_of p others) here.ending ∙ rest.ending;
+      ending = end_of-append start first others ∙ ap (λ (p : ℕ). items_end p others) here.ending ∙ rest.ending;
     } in
-    subst (λ (es : List NodeItem). Spread start (end_of x.end xs) es) (sym (level_of-append at 0 level (x ∷ []) xs)) joined
+    subst (λ (es : List NodeItem). Spread start (items_end x.end xs) es) (sym (level_of-append at 0 level (x ∷ []) xs)) joined
 
 pub spread : (at : ℕ → List ℕ) (limit level start : ℕ) (item : NodeItem) → IsUnder at limit level start item
     → Spread start item.end (level_of at 0 level (item ∷ []))
 unfolding IsUnder level_of
 spread at limit zero start item under = record { ascends = (under, tt); ending = refl }
 spread at limit (suc level) start item under =
-    let is = spread_all at limit level (λ s x u. spread at limit level s x u) start (read at (is_leaf level) item.word) under.1 in
+    let is = spread_all at limit level (λ s x u. spread at limit level s x u) start (items_at at (is_leaf level) item.word) under.1 in
     subst (λ (es : List NodeItem). Spread start item.end es) (sym (entries-down at level item)) (record {
       ascends = is.ascends;
       ending = is.ending ∙ under.0.until;
@@ -96,7 +96,7 @@ entries_any at zero gap item above = absurd (omega arith)
 entries_any at (suc level) gap item above = refl
 
 pub spread_items : (at : ℕ → List ℕ) (limit level start : ℕ) (items : List NodeItem) → AllFrom (IsUnder at limit level) start items
-    → Spread start (end_of start items) (level_of at 0 level items)
+    → Spread start (items_end start items) (level_of at 0 level items)
 spread_items at limit level start items all = spread_all at limit level (λ s x u. spread at limit level s x u) start items all
 
 -- the start that is sought under one item
@@ -122,21 +122,21 @@ best-over side window at limit level start (x ∷ xs) all =
     ∙ ap (pick side here) (best-over side window at limit level x.end xs all.1)
 
 pub found-down : (side : Side) (window : Window) (at : ℕ → List ℕ) (limit level start : ℕ) (item : NodeItem) → IsUnder at limit (suc level) start item
-    → found_in side window at (suc level) start item ≡ over side (found_in side window at level) start (read at (is_leaf level) item.word)
+    → found_in side window at (suc level) start item ≡ over side (found_in side window at level) start (items_at at (is_leaf level) item.word)
 unfolding IsUnder
 found-down side window at limit level start item under =
     ap (best side window start) (entries-down at level item)
-    ∙ best-over side window at limit level start (read at (is_leaf level) item.word) under.1
+    ∙ best-over side window at limit level start (items_at at (is_leaf level) item.word) under.1
 
 -- what is found lies in the window
 pub placed : (side : Side) (window : Window) (start : ℕ) (items : List NodeItem) (s : ℕ) → 1 ≤ window.len → Ascends start items
-    → best side window start items ≡ Some s → Placed window start (end_of start items) s
+    → best side window start items ≡ Some s → Placed window start (items_end start items) s
 unfolding best
 placed side window start [] s some ascends is = absurd (cc)
 placed side window start (x ∷ xs) s some ascends is =
     let later = ends_above x.end xs ascends.1 in
     let past = ascends.0 in
-    elim (pick_from side (spot side window start x) (best side window x.end xs) s is) as (λ _. Placed window start (end_of x.end xs) s) [
+    elim (pick_from side (spot side window start x) (best side window x.end xs) s is) as (λ _. Placed window start (items_end x.end xs) s) [
       | inl here ↦
           let at = (spot_from side window start x s some here).placed in
           let within = at.within in
@@ -169,7 +169,7 @@ gap_under side window at limit zero start item s some under is =
     let one = spot_from side window start item s some (sym (best-one side window start item) ∙ is) in
     (room_of window true start item one.may).gap
 gap_under side window at limit (suc level) start item s some under is =
-    let items = read at (is_leaf level) item.word in
+    let items = items_at at (is_leaf level) item.word in
     let told = sym (found-down side window at limit level start item under) ∙ is in
     let long = gap_all side window at limit level (λ p x t u f. gap_under side window at limit level p x t some u f) start items s under.1 told in
     let same : gap_of (is_leaf level) start items ≡ item.gap = under.0.gap in
@@ -187,7 +187,7 @@ some_all : (side : Side) (window : Window) (at : ℕ → List ℕ) (limit level 
     → ((start : ℕ) (item : NodeItem) → IsUnder at limit level start item → window.len ≤ item_gap (is_leaf level) start item → window.lo ≤ start
     → item.end ≤ window.hi → found_in side window at level start item ≡ None → ⊥)
     → (start : ℕ) (items : List NodeItem) → AllFrom (IsUnder at limit level) start items → window.len ≤ gap_of (is_leaf level) start items → window.lo ≤ start
-    → end_of start items ≤ window.hi → over side (found_in side window at level) start items ≡ None → ⊥
+    → items_end start items ≤ window.hi → over side (found_in side window at level) start items ≡ None → ⊥
 some_all side window at limit level some one start [] all long low high is = omega arith
 some_all side window at limit level some one start (x ∷ xs) all long low high is =
     let here = found_in side window at level start x in
@@ -210,7 +210,7 @@ some_under side window at limit zero start item some under long low high is =
     let told = sym (spot_some side window start item may) ∙ sym (best-one side window start item) ∙ is in
     absurd (cc)
 some_under side window at limit (suc level) start item some under long low high is =
-    let items = read at (is_leaf level) item.word in
+    let items = items_at at (is_leaf level) item.word in
     let told = sym (found-down side window at limit level start item under) ∙ is in
     let same : gap_of (is_leaf level) start items ≡ item.gap = under.0.gap in
     let gap : item_gap (is_leaf (suc level)) start item ≡ item.gap = ap (λ b. item_gap b start item) (inner level) in
@@ -220,8 +220,8 @@ some_under side window at limit (suc level) start item some under long low high 
 
 -- what is known of what is found in an item: nothing where it may have no room, and something where it lies inside the window
 pub record Known (window : Window) (leaf : Bool) (found : ℕ → NodeItem → Option ℕ) (start : ℕ) (item : NodeItem) : Type 0 where
-  pub room : (s : ℕ) → found start item ≡ Some s → may_have window leaf start item ≡ true
-  pub some : may_have window leaf start item ≡ true → window.lo ≤ start → item.end ≤ window.hi → found start item ≡ None → ⊥
+  pub room : (s : ℕ) → found start item ≡ Some s → may_have_room window leaf start item ≡ true
+  pub some : may_have_room window leaf start item ≡ true → window.lo ≤ start → item.end ≤ window.hi → found start item ≡ None → ⊥
   pub past : start < item.end
 
 pub known_under : (side : Side) (window : Window) (at : ℕ → List ℕ) (limit level start : ℕ) (item : NodeItem) → 1 ≤ window.len

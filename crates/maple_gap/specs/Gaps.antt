@@ -16,12 +16,12 @@ unfoldable pub fits : List Pair → ℕ → ℕ → ℕ → ℕ → Bool
 fits pairs pages lo hi start = nat_le lo start && (nat_le (start + pages) hi && is_clear_of (map span_of pairs) pages start)
 
 -- the first pair that ends above a page
-abbrev pub first_from : List Pair → ℕ → Option Pair
-first_from pairs page = find (λ pair. nat_lt page pair.hi) pairs
+abbrev pub first_pair_from : List Pair → ℕ → Option Pair
+first_pair_from pairs page = find (λ pair. nat_lt page pair.hi) pairs
 
 -- the last pair that begins below a page
-abbrev pub last_before : List Pair → ℕ → Option Pair
-last_before pairs page = last_or None (filter (λ pair. nat_lt pair.lo page) pairs)
+abbrev pub last_pair_before : List Pair → ℕ → Option Pair
+last_pair_before pairs page = last_or None (filter (λ pair. nat_lt pair.lo page) pairs)
 
 -- the slot of a pair, if there is one
 abbrev pub slot_in : Option Pair → Option Slot

@@ -2,9 +2,9 @@
 
 ghost use Rattle.std.specs.Prelude.{◌≡◌};
 ghost use Rattle.maple_node.specs.Words.{slot_of};
-ghost use Rattle.node_slots.specs.Seats.{Writes};
+ghost use Rattle.node_slots.specs.Seats.{WritesNodeTable};
 ghost use Rattle.node_slots.specs.Built.{IsWriters, pairs_now};
-ghost use Rattle.maple_gap.specs.Gaps.{first_from, last_before, slot_in};
+ghost use Rattle.maple_gap.specs.Gaps.{first_pair_from, last_pair_before, slot_in};
 
 use crate::branch::{entry_at, entry_near, leaf_at, root_of};
 use maple_node::slot_of;
@@ -16,9 +16,9 @@ struct Reads;
 
 /// The slot of the first pair of the writer's tree that ends above a page. None exactly where there is none.
 pub fn next_slot(nodes: &NodeTable, writer: &NodeWriter, tree: &Tree, page: Page) -> Option<Slot>
-    requires table { Writes writer.now nodes.now }
+    requires table { WritesNodeTable writer.now nodes.now }
     requires tree { IsWriters writer.now tree.now }
-    ensures { result ≡ slot_in (first_from (pairs_now writer.now tree.now) page.0) }
+    ensures { result ≡ slot_in (first_pair_from (pairs_now writer.now tree.now) page.0) }
 {
     let mut steps = Steps::<Reads>::new();
     let root = root_of(writer, tree, &mut steps);
@@ -40,9 +40,9 @@ pub fn next_slot(nodes: &NodeTable, writer: &NodeWriter, tree: &Tree, page: Page
 
 /// The slot of the last pair of the writer's tree that begins below a page. None exactly where there is none.
 pub fn before_slot(nodes: &NodeTable, writer: &NodeWriter, tree: &Tree, page: Page) -> Option<Slot>
-    requires table { Writes writer.now nodes.now }
+    requires table { WritesNodeTable writer.now nodes.now }
     requires tree { IsWriters writer.now tree.now }
-    ensures { result ≡ slot_in (last_before (pairs_now writer.now tree.now) page.0) }
+    ensures { result ≡ slot_in (last_pair_before (pairs_now writer.now tree.now) page.0) }
 {
     let mut steps = Steps::<Reads>::new();
     let root = root_of(writer, tree, &mut steps);

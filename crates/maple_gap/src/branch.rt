@@ -2,12 +2,12 @@
 
 ghost use Rattle.std.specs.Prelude.{◌≡◌, ◌<◌, ◌≤◌, ◌+◌, true, IfSome};
 ghost use Rattle.std.specs.Option.{option_or};
-ghost use Rattle.maple_node.specs.Nodes.{end_of};
+ghost use Rattle.maple_node.specs.Nodes.{items_end};
 ghost use Rattle.maple_node.specs.Levels.{is_leaf, item_at};
 ghost use Rattle.maple_node.specs.Splices.{ending_by};
 ghost use Rattle.node_slots.specs.Seats.{row_count};
 ghost use Rattle.node_slots.specs.Built.{words_at, IsWriters};
-ghost use Rattle.maple_gap.specs.Internal.Searches.{may_have, entries_under, best_under, best_of, spare_from, IsBranch, IsAnyBranch, IsSpare, IsFar, IsPartOf, IsRootOf};
+ghost use Rattle.maple_gap.specs.Internal.Searches.{may_have_room, entries_under, best_under, best_of, spare_from, IsBranch, IsAnyBranch, IsSpare, IsFar, IsPartOf, IsRootOf};
 
 use crate::window::{Side, Window, choose};
 use maple_node::{NodeItem, Place, gap_in, item_in, lists_nothing};
@@ -118,7 +118,7 @@ pub(crate) fn descend<L>(
     steps: &mut Steps<L>,
 ) -> Descent
     requires branch { IsBranch (words_at writer.now) from }
-    requires room { may_have window (is_leaf from.level) from.place.start from.place.item ≡ true }
+    requires room { may_have_room window (is_leaf from.level) from.place.start from.place.item ≡ true }
     requires some { 1 ≤ window.len }
     ensures best { best_under side window (words_at writer.now) from ≡ option_or result.found (best_of side window (words_at writer.now) result.spare) }
     ensures far { IsFar side window from.place → best_under side window (words_at writer.now) from ≡ result.found }
@@ -155,7 +155,7 @@ pub(crate) fn entry_at<L>(
     requires above { root.place.start ≤ page }
     requires within { page < root.place.item.end }
     ensures item { item_at page (entries_under (words_at writer.now) root) ≡ Some result.item }
-    ensures start { result.start ≡ end_of root.place.start (ending_by page (entries_under (words_at writer.now) root)) }
+    ensures start { result.start ≡ items_end root.place.start (ending_by page (entries_under (words_at writer.now) root)) }
 {
     let mut branch = root;
     while branch.level > 0 {

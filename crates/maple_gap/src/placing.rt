@@ -1,11 +1,11 @@
 //! Where so many free pages begin.
 
 ghost use Rattle.std.specs.Prelude.{◌≤◌, ◌+◌, ◌*◌, MatchOption};
-ghost use Rattle.node_slots.specs.Seats.{Writes};
+ghost use Rattle.node_slots.specs.Seats.{WritesNodeTable};
 ghost use Rattle.node_slots.specs.Built.{IsWriters, pairs_now};
 ghost use Rattle.mm_types.specs.Searches.{IsGreatest, IsLeast, NonePasses};
 ghost use Rattle.maple_gap.specs.Gaps.{fits};
-ghost use Rattle.maple_gap.specs.Internal.Searches.{IsAnswer};
+ghost use Rattle.maple_gap.specs.Internal.Searches.{IsOutermost};
 
 use crate::branch::{descend, root_with_gap};
 use crate::window::{Side, Window};
@@ -23,7 +23,7 @@ pub fn highest<L>(
     hi: u64,
     steps: &mut Steps<L>,
 ) -> Option<Page>
-    requires table { Writes writer.now nodes.now }
+    requires table { WritesNodeTable writer.now nodes.now }
     requires tree { IsWriters writer.now tree.now }
     requires some { 1 ≤ len }
     requires limit { hi ≤ tree.now.limit.0 }
@@ -47,7 +47,7 @@ pub fn lowest<L>(
     hi: u64,
     steps: &mut Steps<L>,
 ) -> Option<Page>
-    requires table { Writes writer.now nodes.now }
+    requires table { WritesNodeTable writer.now nodes.now }
     requires tree { IsWriters writer.now tree.now }
     requires some { 1 ≤ len }
     requires limit { hi ≤ tree.now.limit.0 }
@@ -71,7 +71,7 @@ fn search<L>(
     requires tree { IsWriters writer.now tree.now }
     requires some { 1 ≤ window.len }
     requires limit { window.hi ≤ tree.now.limit.0 }
-    ensures start { IsAnswer side (fits (pairs_now writer.now tree.now) window.len window.lo window.hi) result }
+    ensures start { IsOutermost side (fits (pairs_now writer.now tree.now) window.len window.lo window.hi) result }
     ensures steps { steps.new ≤ steps.old + (2 * tree.now.height + 2) }
 {
     let root = root_with_gap(writer, tree, steps);

@@ -1,8 +1,8 @@
 //! The items of a node that may have room for so many pages.
 
 ghost use Rattle.std.specs.Prelude.{◌≡◌, ◌≤◌, IfNone, IfSome};
-ghost use Rattle.maple_node.specs.Nodes.{items_of};
-ghost use Rattle.maple_gap.specs.Internal.Searches.{may_have, edge, chosen, nothing_chosen, chosen_from};
+ghost use Rattle.maple_node.specs.Nodes.{node_items};
+ghost use Rattle.maple_gap.specs.Internal.Searches.{may_have_room, edge, chosen, nothing_chosen, chosen_from};
 ghost use Rattle.maple_gap.specs.Internal.Spots.{IsNextRoom, HasNoRoom};
 
 use maple_node::{NODE_WORDS, Place, item_gap, listed_at, width_of};
@@ -25,9 +25,9 @@ pub(crate) struct Window {
 impl Window {
     /// Whether an item may have room: its largest gap is long enough, and so is its part in the window. An entry that may have
     /// room has it.
-    #[tactic(auto, unfolding(crate::specs::Internal::Searches::may_have))]
+    #[tactic(auto, unfolding(crate::specs::Internal::Searches::may_have_room))]
     pub(crate) fn may_have(self, leaf: bool, place: Place) -> bool
-        ensures { result ≡ may_have self leaf place.start place.item }
+        ensures { result ≡ may_have_room self leaf place.start place.item }
     {
         // Most items fail this first test, which is the cheaper one.
         if item_gap(leaf, place.start, place.item) < self.len {
@@ -118,7 +118,7 @@ pub(crate) fn choose(
     start: u64,
     words: &[u64; 32],
 ) -> Choice
-    ensures { result ≡ chosen_from side window leaf nothing_chosen start (items_of leaf words.now) }
+    ensures { result ≡ chosen_from side window leaf nothing_chosen start (node_items leaf words.now) }
 {
     let mut choice = Choice {
         first: None,

@@ -7,13 +7,13 @@ use Rattle.std.proofs.lemmas.Bool.Decides.{nat_tests}
 use Rattle.std.specs.List.{slice_get}
 use Rattle.mm_types.specs.declared.slot.Row.{Row}
 use Rattle.maple_node.specs.declared.item.NodeItem.{NodeItem}
-use Rattle.maple_node.specs.Nodes.{words_of, IsPlain}
+use Rattle.maple_node.specs.Nodes.{words_of_items, KeepsNoGap}
 use Rattle.maple_node.specs.Words.{Child, child_item, inner_child, FitsInner, IsInnerOf}
 use Rattle.maple_node.proofs.Packing.{length-inner_words}
 use Rattle.maple_node.proofs.Places.{unused, length-words_of, ends_past, inner-ends, inner-words, inner-gaps}
 
 -- a child may keep any gap
-pub children-plain : (children : List Child) → IsPlain false (map child_item children)
+pub children-plain : (children : List Child) → KeepsNoGap false (map child_item children)
 children-plain [] = tt
 children-plain (child ∷ children) = children-plain children
 
@@ -88,10 +88,10 @@ slice_get-past (child ∷ children) (suc i) past = slice_get-past children i (om
 
 -- what was packed in an inner node is read at each place
 pub inner_read_back : (children : List Child) (place : ℕ) → FitsInner children
-    → inner_child (words_of false (map child_item children)) place ≡ slice_get children place
+    → inner_child (words_of_items false (map child_item children)) place ≡ slice_get children place
 inner_read_back children place fits =
     let items = map child_item children in
-    let words = words_of false items in
+    let words = words_of_items false items in
     let d = no_child in
     elim (cases_lt place (length children)) as (λ _. inner_child words place ≡ slice_get children place) [
       | inl within ↦
@@ -119,17 +119,17 @@ each_word P index first second third = elim (cases_lt (index % 3) 1) as (λ _. P
 ]
 
 -- the words after the last child are 0
-behind : (children : List Child) (index : ℕ) → 3 * length children ≤ index → get_or (words_of false (map child_item children)) index 0 ≡ 0
+behind : (children : List Child) (index : ℕ) → 3 * length children ≤ index → get_or (words_of_items false (map child_item children)) index 0 ≡ 0
 behind children index past =
     let items = map child_item children in
     let none : get_or items (index / 3) unused ≡ unused = none_past children (index / 3) (omega arith) in
-    each_word (λ j. get_or (words_of false items) j 0 ≡ 0) index
+    each_word (λ j. get_or (words_of_items false items) j 0 ≡ 0) index
     (inner-ends items (index / 3) ∙ ap (λ (item : NodeItem). item.end) none)
     (inner-words items (index / 3) ∙ ap (λ (item : NodeItem). item.word) none)
     (inner-gaps items (index / 3) ∙ ap (λ (item : NodeItem). item.gap) none)
 
 -- they read as the children in the first places, and are 0 after them
-pub inner_shown : (children : List Child) → FitsInner children → IsInnerOf (words_of false (map child_item children)) children
+pub inner_shown : (children : List Child) → FitsInner children → IsInnerOf (words_of_items false (map child_item children)) children
 inner_shown children fits = record {
   sized = length-words_of false (map child_item children)
       (omega (arith, fits.few, length-inner_words (map child_item children), length-map children child_item));
@@ -139,14 +139,14 @@ inner_shown children fits = record {
 
 -- words that read as children, and are 0 after them, are their words
 word_there : (words : List ℕ) (children : List Child) → IsInnerOf words children → (k : ℕ) → k / 3 < length children
-    → get_or (words_of false (map child_item children)) k 0 ≡ get_or words k 0
+    → get_or (words_of_items false (map child_item children)) k 0 ≡ get_or words k 0
 word_there words children inner k there =
     let i = k / 3 in
     let d = no_child in
     let items = map child_item children in
     let at = child_at children i d there in
     let told = inner_told words i (get_or children i d) (inner.used i there ∙ slice_get-get_or children i d there) in
-    each_word (λ j. get_or (words_of false items) j 0 ≡ get_or words j 0) k
+    each_word (λ j. get_or (words_of_items false items) j 0 ≡ get_or words j 0) k
     (inner-ends items i ∙ ap (λ (item : NodeItem). item.end) at ∙ sym told.end)
     (inner-words items i ∙ ap (λ (item : NodeItem). item.word) at ∙ sym told.word)
     (inner-gaps items i ∙ ap (λ (item : NodeItem). item.gap) at ∙ sym told.gap)
@@ -161,10 +161,10 @@ few_children words children inner = let last = length children - 1 in
       | inr none ↦ omega arith
     ]
 
-pub inner_written_back : (words : List ℕ) (children : List Child) → IsInnerOf words children → words_of false (map child_item children) ≡ words
+pub inner_written_back : (words : List ℕ) (children : List Child) → IsInnerOf words children → words_of_items false (map child_item children) ≡ words
 inner_written_back words children inner =
     let few = few_children words children inner in
-    let packed = words_of false (map child_item children) in
+    let packed = words_of_items false (map child_item children) in
     let long : length packed ≡ 32 = length-words_of false (map child_item children)
     (omega (arith, few, length-inner_words (map child_item children), length-map children child_item)) in
     ext_get_or 0 packed words (omega (arith, inner.sized)) (λ k within.

@@ -7,13 +7,13 @@ use Rattle.std.proofs.lemmas.Bool.Decides.{nat_tests}
 use Rattle.std.specs.List.{slice_get}
 use Rattle.mm_types.specs.declared.slot.Slot.{Slot}
 use Rattle.maple_node.specs.declared.item.NodeItem.{NodeItem}
-use Rattle.maple_node.specs.Nodes.{words_of, IsPlain}
+use Rattle.maple_node.specs.Nodes.{words_of_items, KeepsNoGap}
 use Rattle.maple_node.specs.Words.{Entry, slot_word, slot_of, entry_item, leaf_entry, FitsLeaf, IsLeafOf}
 use Rattle.maple_node.proofs.Packing.{length-leaf_words}
 use Rattle.maple_node.proofs.Places.{unused, length-words_of, ends_past, leaf-ends, leaf-words}
 
 -- entries keep no gap
-pub entries-plain : (entries : List Entry) → IsPlain true (map entry_item entries)
+pub entries-plain : (entries : List Entry) → KeepsNoGap true (map entry_item entries)
 entries-plain [] = tt
 entries-plain (entry ∷ entries) = (refl, entries-plain entries)
 
@@ -94,10 +94,10 @@ slice_get-past (entry ∷ entries) (suc i) past = slice_get-past entries i (omeg
 
 -- what was packed in a leaf is read at each place
 pub leaf_read_back : (entries : List Entry) (place : ℕ) → FitsLeaf entries
-    → leaf_entry (words_of true (map entry_item entries)) place ≡ slice_get entries place
+    → leaf_entry (words_of_items true (map entry_item entries)) place ≡ slice_get entries place
 leaf_read_back entries place fits =
     let items = map entry_item entries in
-    let words = words_of true items in
+    let words = words_of_items true items in
     let d : Entry = (0, None) in
     elim (cases_lt place (length entries)) as (λ _. leaf_entry words place ≡ slice_get entries place) [
       | inl within ↦
@@ -121,16 +121,16 @@ each_word P index first second = elim (cases_lt (index % 2) 1) as (λ _. P index
 ]
 
 -- the words after the last entry are 0
-behind : (entries : List Entry) (index : ℕ) → 2 * length entries ≤ index → get_or (words_of true (map entry_item entries)) index 0 ≡ 0
+behind : (entries : List Entry) (index : ℕ) → 2 * length entries ≤ index → get_or (words_of_items true (map entry_item entries)) index 0 ≡ 0
 behind entries index past =
     let items = map entry_item entries in
     let none : get_or items (index / 2) unused ≡ unused = none_past entries (index / 2) (omega arith) in
-    each_word (λ j. get_or (words_of true items) j 0 ≡ 0) index
+    each_word (λ j. get_or (words_of_items true items) j 0 ≡ 0) index
     (leaf-ends items (index / 2) ∙ ap (λ (item : NodeItem). item.end) none)
     (leaf-words items (index / 2) ∙ ap (λ (item : NodeItem). item.word) none)
 
 -- they read as the entries in the first places, and are 0 after them
-pub leaf_shown : (entries : List Entry) → FitsLeaf entries → IsLeafOf (words_of true (map entry_item entries)) entries
+pub leaf_shown : (entries : List Entry) → FitsLeaf entries → IsLeafOf (words_of_items true (map entry_item entries)) entries
 leaf_shown entries fits = record {
   sized = length-words_of true (map entry_item entries)
       (omega (arith, fits.few, length-leaf_words (map entry_item entries), length-map entries entry_item));
@@ -140,14 +140,14 @@ leaf_shown entries fits = record {
 
 -- words that read as entries, and are 0 after them, are their words
 word_there : (words : List ℕ) (entries : List Entry) → IsLeafOf words entries → (k : ℕ) → k / 2 < length entries
-    → get_or (words_of true (map entry_item entries)) k 0 ≡ get_or words k 0
+    → get_or (words_of_items true (map entry_item entries)) k 0 ≡ get_or words k 0
 word_there words entries leaf k there =
     let i = k / 2 in
     let d : Entry = (0, None) in
     let items = map entry_item entries in
     let at = entry_at entries i d there in
     let told = leaf_told words i (get_or entries i d) (leaf.used i there ∙ slice_get-get_or entries i d there) in
-    each_word (λ j. get_or (words_of true items) j 0 ≡ get_or words j 0) k
+    each_word (λ j. get_or (words_of_items true items) j 0 ≡ get_or words j 0) k
     (leaf-ends items i ∙ ap (λ (item : NodeItem). item.end) at ∙ sym told.end)
     (leaf-words items i ∙ ap (λ (item : NodeItem). item.word) at ∙ sym told.word)
 
@@ -161,10 +161,10 @@ few_entries words entries leaf = let d : Entry = (0, None) in let last = length 
       | inr none ↦ omega arith
     ]
 
-pub leaf_written_back : (words : List ℕ) (entries : List Entry) → IsLeafOf words entries → words_of true (map entry_item entries) ≡ words
+pub leaf_written_back : (words : List ℕ) (entries : List Entry) → IsLeafOf words entries → words_of_items true (map entry_item entries) ≡ words
 leaf_written_back words entries leaf =
     let few = few_entries words entries leaf in
-    let packed = words_of true (map entry_item entries) in
+    let packed = words_of_items true (map entry_item entries) in
     let long : length packed ≡ 32 = length-words_of true (map entry_item entries)
     (omega (arith, few, length-leaf_words (map entry_item entries), length-map entries entry_item)) in
     ext_get_or 0 packed words (omega (arith, leaf.sized)) (λ k within.

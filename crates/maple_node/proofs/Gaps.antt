@@ -5,11 +5,11 @@ use Rattle.std.specs.List.{flat_map}
 use Rattle.std.proofs.lemmas.Bool.{cases_lt}
 use Rattle.std.proofs.lemmas.Bool.Decides.{nat_tests}
 use Rattle.maple_node.specs.declared.item.NodeItem.{NodeItem}
-use Rattle.maple_node.specs.Nodes.{end_of, Ascends}
+use Rattle.maple_node.specs.Nodes.{items_end, Ascends}
 use Rattle.maple_node.specs.Levels.{item_at}
 use Rattle.maple_node.specs.Trees.{Pair, pair_of, pairs_from, ApartFrom}
 use Rattle.maple_node.specs.Splices.{ending_by, ending_after, piece_of, overwrite, gap_begin, gap_end, widened_lo, widened_hi}
-use Rattle.maple_node.specs.Pairs.{lower_part, upper_part, overwritten}
+use Rattle.maple_node.specs.Pairs.{pair_below, pair_from, overwritten}
 use Rattle.maple_node.proofs.ItemLists.{ending_by-first, ending_by_first, ending_by_none, ending_by_below, end_ending_by, ending_after-later, ending_after_first, item_at-first, item_at-later, found_at, stands}
 use Rattle.maple_node.proofs.Pairs.{lower-cons, upper-cons, lower_all, upper_none, below_none, above_all}
 use Rattle.maple_node.proofs.ItemEntries.{lower_entries, overwrite-parts, overwrite-pairs}
@@ -30,7 +30,7 @@ same_item x y is = cc
 
 -- in the entries below a page, with the piece of the one that has it
 abbrev lower_from : ℕ → ℕ → List NodeItem → List NodeItem
-lower_from start page xs = ending_by page xs ++ piece_of (end_of start (ending_by page xs)) page (item_at page xs)
+lower_from start page xs = ending_by page xs ++ piece_of (items_end start (ending_by page xs)) page (item_at page xs)
 
 lower-above : (start page : ℕ) (x : NodeItem) (xs : List NodeItem) → Ascends start (x ∷ xs) → page < x.end
     → lower_from start page (x ∷ xs) ≡ piece_of start page (Some x)
@@ -48,7 +48,7 @@ piece-some start page x some = let test : nat_lt start page ≡ true = grind (ar
 
 lower-none : (start page : ℕ) (xs : List NodeItem) → Ascends start xs → page ≤ start → lower_from start page xs ≡ []
 lower-none start page xs ascends begins =
-    ap (λ (ys : List NodeItem). ys ++ piece_of (end_of start ys) page (item_at page xs)) (ending_by_none start page xs ascends begins)
+    ap (λ (ys : List NodeItem). ys ++ piece_of (items_end start ys) page (item_at page xs)) (ending_by_none start page xs ascends begins)
     ∙ piece-none start page (item_at page xs) begins
 
 pub lower-apart : (before start page : ℕ) (xs : List NodeItem) → Ascends start xs → ApartFrom before xs → ApartFrom before (lower_from start page xs)
@@ -110,12 +110,12 @@ last_below before start last page (y ∷ ys) x ascends next begins found =
 
 -- no gap stands before a gap
 before_gap : (before start last : ℕ) (xs : List NodeItem) (x : NodeItem) → Ascends start xs → ApartFrom before xs → start ≤ last
-    → item_at last xs ≡ Some x → x.word ≡ 0 → last_word before (lower_from start (end_of start (ending_by last xs)) xs) ≡ 0 → ⊥
+    → item_at last xs ≡ Some x → x.word ≡ 0 → last_word before (lower_from start (items_end start (ending_by last xs)) xs) ≡ 0 → ⊥
 before_gap before start last [] x ascends apart begins found gap = absurd (cc)
 before_gap before start last (y ∷ ys) x ascends apart begins found gap =
     let No : ℕ → Type 0 = λ page. last_word before (lower_from start page (y ∷ ys)) ≡ 0 → ⊥ in
     let Last : List NodeItem → Type 0 = λ zs. last_word before zs ≡ 0 → ⊥ in
-    let End : List NodeItem → Type 0 = λ zs. No (end_of start zs) in
+    let End : List NodeItem → Type 0 = λ zs. No (items_end start zs) in
     elim (cases_lt last y.end) as (λ _. End (ending_by last (y ∷ ys))) [
       | inl here ↦
           let same : y ≡ x = same_item y x (sym (item_at-first last y ys here) ∙ found) in
@@ -123,7 +123,7 @@ before_gap before start last (y ∷ ys) x ascends apart begins found gap =
           let none : lower_from start start (y ∷ ys) ≡ [] = lower-none start start (y ∷ ys) ascends (omega arith) in
           subst End (sym (ending_by_first start last y ys ascends here)) (subst Last (sym none) (λ first. apart.0 first zero))
       | inr later ↦
-          let page = end_of y.end (ending_by last ys) in
+          let page = items_end y.end (ending_by last ys) in
           let past : y.end ≤ page = end_ending_by y.end last ys ascends.1 in
           subst End (sym (ending_by-first last y ys later)) (subst Last (sym (lower-within start page y ys past))
           (before_gap y.word y.end last ys x ascends.1 apart.1 later (sym (item_at-later last y ys later) ∙ found) gap))
@@ -131,24 +131,24 @@ before_gap before start last (y ∷ ys) x ascends apart begins found gap =
 
 -- the pairs below a gap that has the page before a page
 gap_below : (start last page : ℕ) (xs : List NodeItem) (x : NodeItem) → Ascends start xs → last + 1 ≡ page → start ≤ last → item_at last xs ≡ Some x
-    → x.word ≡ 0 → flat_map (lower_part (end_of start (ending_by last xs))) (pairs_from start xs) ≡ flat_map (lower_part page) (pairs_from start xs)
+    → x.word ≡ 0 → flat_map (pair_below (items_end start (ending_by last xs))) (pairs_from start xs) ≡ flat_map (pair_below page) (pairs_from start xs)
 gap_below start last page [] x ascends next begins found gap = absurd (cc)
 gap_below start last page (y ∷ ys) x ascends next begins found gap =
-    let all = flat_map (lower_part page) (pairs_from start (y ∷ ys)) in
-    let End : List NodeItem → Type 0 = λ zs. flat_map (lower_part (end_of start zs)) (pairs_from start (y ∷ ys)) ≡ all in
+    let all = flat_map (pair_below page) (pairs_from start (y ∷ ys)) in
+    let End : List NodeItem → Type 0 = λ zs. flat_map (pair_below (items_end start zs)) (pairs_from start (y ∷ ys)) ≡ all in
     elim (cases_lt last y.end) as (λ _. End (ending_by last (y ∷ ys))) [
       | inl here ↦
           let same : y ≡ x = same_item y x (sym (item_at-first last y ys here) ∙ found) in
           let zero : y.word ≡ 0 = ap (λ (item : NodeItem). item.word) same ∙ gap in
           let first = ascends.0 in
-          let none : flat_map (lower_part page) (pair_of start y) ≡ [] =
+          let none : flat_map (pair_below page) (pair_of start y) ≡ [] =
           let test : nat_eq y.word 0 ≡ true = grind (arith, nat_tests) in rw test refl in
           let low = lower-cons start page y ys [] [] none (below_none y.end page ys ascends.1 (omega arith)) in
           subst End (sym (ending_by_first start last y ys ascends here)) (below_none start start (y ∷ ys) ascends (omega arith) ∙ sym low)
       | inr later ↦
-          let begin = end_of y.end (ending_by last ys) in
+          let begin = items_end y.end (ending_by last ys) in
           let past : y.end ≤ begin = end_ending_by y.end last ys ascends.1 in
-          let rest = flat_map (lower_part page) (pairs_from y.end ys) in
+          let rest = flat_map (pair_below page) (pairs_from y.end ys) in
           let deep = gap_below y.end last page ys x ascends.1 next later (sym (item_at-later last y ys later) ∙ found) gap in
           subst End (sym (ending_by-first last y ys later))
           (lower-cons start begin y ys (pair_of start y) rest (lower_all start begin y ascends.0 past) deep
@@ -157,15 +157,15 @@ gap_below start last page (y ∷ ys) x ascends next begins found gap =
 
 -- the pairs above a gap that has a page
 gap_above : (start page : ℕ) (xs : List NodeItem) (x : NodeItem) → Ascends start xs → item_at page xs ≡ Some x → x.word ≡ 0
-    → flat_map (upper_part x.end) (pairs_from start xs) ≡ flat_map (upper_part page) (pairs_from start xs)
+    → flat_map (pair_from x.end) (pairs_from start xs) ≡ flat_map (pair_from page) (pairs_from start xs)
 gap_above start page [] x ascends found gap = refl
 gap_above start page (y ∷ ys) x ascends found gap =
-    elim (cases_lt page y.end) as (λ _. flat_map (upper_part x.end) (pairs_from start (y ∷ ys)) ≡ flat_map (upper_part page) (pairs_from start (y ∷ ys))) [
+    elim (cases_lt page y.end) as (λ _. flat_map (pair_from x.end) (pairs_from start (y ∷ ys)) ≡ flat_map (pair_from page) (pairs_from start (y ∷ ys))) [
       | inl here ↦
           let same : y ≡ x = same_item y x (sym (item_at-first page y ys here) ∙ found) in
           let zero : y.word ≡ 0 = ap (λ (item : NodeItem). item.word) same ∙ gap in
           let end : y.end ≡ x.end = ap (λ (item : NodeItem). item.end) same in
-          let none : flat_map (upper_part page) (pair_of start y) ≡ [] =
+          let none : flat_map (pair_from page) (pair_of start y) ≡ [] =
           let test : nat_eq y.word 0 ≡ true = grind (arith, nat_tests) in rw test refl in
           let pairs = pairs_from y.end ys in
           upper-cons start x.end y ys [] pairs (upper_none start x.end y (omega arith)) (above_all y.end x.end ys ascends.1 (omega arith))
@@ -173,7 +173,7 @@ gap_above start page (y ∷ ys) x ascends found gap =
       | inr later ↦
           let deep = sym (item_at-later page y ys later) ∙ found in
           let above = (stands y.end page ys x ascends.1 deep).above in
-          let rest = flat_map (upper_part page) (pairs_from y.end ys) in
+          let rest = flat_map (pair_from page) (pairs_from y.end ys) in
           upper-cons start x.end y ys [] rest (upper_none start x.end y (omega arith)) (gap_above y.end page ys x ascends.1 deep gap)
           ∙ sym (upper-cons start page y ys [] rest (upper_none start page y later) refl)
     ]
@@ -205,7 +205,7 @@ after_gap before start page (z ∷ zs) x y ascends apart found gap next none = e
 -- where a new gap begins that takes in the one before it
 record Low (lo low : ℕ) (xs : List NodeItem) : Type 0 where
   down : low ≤ lo
-  lower : flat_map (lower_part low) (pairs_from 0 xs) ≡ flat_map (lower_part lo) (pairs_from 0 xs)
+  lower : flat_map (pair_below low) (pairs_from 0 xs) ≡ flat_map (pair_below lo) (pairs_from 0 xs)
   before : last_word 1 (lower_entries low xs) ≡ 0 → ⊥
 
 low_first : (xs : List NodeItem) → Ascends 0 xs → Low 0 0 xs
@@ -214,7 +214,7 @@ low_first xs ascends =
     record { down = omega arith; lower = refl; before = subst Last (sym (lower-none 0 0 xs ascends (omega arith))) (λ is. absurd (omega arith)) }
 
 low_gap : (lo last : ℕ) (xs : List NodeItem) (x : NodeItem) → Ascends 0 xs → ApartFrom 1 xs → last + 1 ≡ lo → item_at last xs ≡ Some x → x.word ≡ 0
-    → Low lo (end_of 0 (ending_by last xs)) xs
+    → Low lo (items_end 0 (ending_by last xs)) xs
 low_gap lo last xs x ascends apart next found gap =
     let below = ending_by_below 0 last xs (omega arith) in
     record {
@@ -230,11 +230,11 @@ low_slot lo last xs x ascends next found slot = record {
   before = λ zero. slot (sym (last_below 1 0 last lo xs x ascends next (omega arith) found) ∙ zero);
 }
 
-low_at : (lo : ℕ) (xs : List NodeItem) → Ascends 0 xs → ApartFrom 1 xs → lo < end_of 0 xs → Low lo (widened_lo lo xs) xs
+low_at : (lo : ℕ) (xs : List NodeItem) → Ascends 0 xs → ApartFrom 1 xs → lo < items_end 0 xs → Low lo (widened_lo lo xs) xs
 unfolding widened_lo
 low_at lo xs ascends apart within =
     let last = lo - 1 in
-    let begin = end_of 0 (ending_by last xs) in
+    let begin = items_end 0 (ending_by last xs) in
     let At : ℕ → Type 0 = λ low. Low lo low xs in
     let Test : Bool → Type 0 = λ b. At (if b then 0 else gap_begin begin lo (item_at last xs)) in
     elim (cases_lt 0 lo) as (λ _. Test (nat_eq lo 0)) [
@@ -263,11 +263,11 @@ low_at lo xs ascends apart within =
 -- where it ends, if it takes in the one after it
 record High (hi high : ℕ) (xs : List NodeItem) : Type 0 where
   up : hi ≤ high
-  limit : high ≤ end_of 0 xs
-  upper : flat_map (upper_part high) (pairs_from 0 xs) ≡ flat_map (upper_part hi) (pairs_from 0 xs)
+  limit : high ≤ items_end 0 xs
+  upper : flat_map (pair_from high) (pairs_from 0 xs) ≡ flat_map (pair_from hi) (pairs_from 0 xs)
   after : (y : NodeItem) → item_at high xs ≡ Some y → y.word ≡ 0 → ⊥
 
-high_end : (hi : ℕ) (xs : List NodeItem) → hi ≤ end_of 0 xs → item_at hi xs ≡ None → High hi hi xs
+high_end : (hi : ℕ) (xs : List NodeItem) → hi ≤ items_end 0 xs → item_at hi xs ≡ None → High hi hi xs
 high_end hi xs within none = record {
   up = omega arith;
   limit = within;
@@ -286,7 +286,7 @@ high_gap hi xs x ascends apart found gap =
       after = λ y next zero. after_gap 1 0 hi xs x y ascends apart found gap next zero;
     }
 
-high_slot : (hi : ℕ) (xs : List NodeItem) (x : NodeItem) → hi ≤ end_of 0 xs → item_at hi xs ≡ Some x → x.word ≢ 0 → High hi hi xs
+high_slot : (hi : ℕ) (xs : List NodeItem) (x : NodeItem) → hi ≤ items_end 0 xs → item_at hi xs ≡ Some x → x.word ≢ 0 → High hi hi xs
 high_slot hi xs x within found slot = record {
   up = omega arith;
   limit = within;
@@ -294,7 +294,7 @@ high_slot hi xs x within found slot = record {
   after = λ y next zero. slot (ap (λ (item : NodeItem). item.word) (same_item x y (sym found ∙ next)) ∙ zero);
 }
 
-high_of : (hi : ℕ) (xs : List NodeItem) (o : Option NodeItem) → Ascends 0 xs → ApartFrom 1 xs → hi ≤ end_of 0 xs → item_at hi xs ≡ o
+high_of : (hi : ℕ) (xs : List NodeItem) (o : Option NodeItem) → Ascends 0 xs → ApartFrom 1 xs → hi ≤ items_end 0 xs → item_at hi xs ≡ o
     → High hi (gap_end hi o) xs
 high_of hi xs None ascends apart within is = high_end hi xs within is
 high_of hi xs (Some x) ascends apart within is =
@@ -306,7 +306,7 @@ high_of hi xs (Some x) ascends apart within is =
           subst Word (sym yes) (high_gap hi xs x ascends apart is (omega arith))
     ]
 
-high_at : (hi : ℕ) (xs : List NodeItem) → Ascends 0 xs → ApartFrom 1 xs → hi ≤ end_of 0 xs → High hi (widened_hi hi xs) xs
+high_at : (hi : ℕ) (xs : List NodeItem) → Ascends 0 xs → ApartFrom 1 xs → hi ≤ items_end 0 xs → High hi (widened_hi hi xs) xs
 unfolding widened_hi
 high_at hi xs ascends apart within = high_of hi xs (item_at hi xs) ascends apart within refl
 
@@ -314,11 +314,11 @@ high_at hi xs ascends apart within = high_of hi xs (item_at hi xs) ascends apart
 pub record Widened (lo hi : ℕ) (xs : List NodeItem) : Type 0 where
   pub down : widened_lo lo xs ≤ lo
   pub up : hi ≤ widened_hi hi xs
-  pub limit : widened_hi hi xs ≤ end_of 0 xs
+  pub limit : widened_hi hi xs ≤ items_end 0 xs
   pub pairs : pairs_from 0 (overwrite (widened_lo lo xs) (widened_hi hi xs) 0 xs) ≡ overwritten lo hi 0 (pairs_from 0 xs)
   pub apart : ApartFrom 1 (overwrite (widened_lo lo xs) (widened_hi hi xs) 0 xs)
 
-pub widened : (lo hi : ℕ) (xs : List NodeItem) → Ascends 0 xs → ApartFrom 1 xs → lo < hi → hi ≤ end_of 0 xs → Widened lo hi xs
+pub widened : (lo hi : ℕ) (xs : List NodeItem) → Ascends 0 xs → ApartFrom 1 xs → lo < hi → hi ≤ items_end 0 xs → Widened lo hi xs
 widened lo hi xs ascends apart some within =
     let low = low_at lo xs ascends apart (omega arith) in
     let high = high_at hi xs ascends apart within in
@@ -332,13 +332,13 @@ widened lo hi xs ascends apart some within =
       up = high.up;
       limit = high.limit;
       pairs = overwrite-pairs begin end 0 xs ascends (omega arith) high.limit
-          ∙ ap (λ (ps : List Pair). ps ++ flat_map (upper_part end) pairs) low.lower
-          ∙ ap (λ (ps : List Pair). flat_map (lower_part lo) pairs ++ ps) high.upper;
+          ∙ ap (λ (ps : List Pair). ps ++ flat_map (pair_from end) pairs) low.lower
+          ∙ ap (λ (ps : List Pair). flat_map (pair_below lo) pairs ++ ps) high.upper;
       apart = overwrite-apart begin end 0 xs ascends apart (λ zero. low.before) (λ zero. high.after);
     }
 
 -- a new entry with a slot
-pub stored-apart : (lo hi word : ℕ) (xs : List NodeItem) → Ascends 0 xs → ApartFrom 1 xs → lo < hi → hi ≤ end_of 0 xs → word ≢ 0
+pub stored-apart : (lo hi word : ℕ) (xs : List NodeItem) → Ascends 0 xs → ApartFrom 1 xs → lo < hi → hi ≤ items_end 0 xs → word ≢ 0
     → ApartFrom 1 (overwrite lo hi word xs)
 stored-apart lo hi word xs ascends apart some within slot =
     overwrite-apart lo hi word xs ascends apart (λ zero. absurd (slot zero)) (λ zero. absurd (slot zero))

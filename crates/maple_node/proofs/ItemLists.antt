@@ -5,7 +5,7 @@ use Rattle.std.specs.Prelude.{nat_lt, nat_le}
 use Rattle.std.proofs.lemmas.Bool.{cases_lt}
 use Rattle.std.proofs.lemmas.Bool.Decides.{nat_tests}
 use Rattle.maple_node.specs.declared.item.NodeItem.{NodeItem}
-use Rattle.maple_node.specs.Nodes.{end_of, Ascends, IsPlain}
+use Rattle.maple_node.specs.Nodes.{items_end, Ascends, KeepsNoGap}
 use Rattle.maple_node.specs.Levels.{item_at, AllFrom}
 use Rattle.maple_node.proofs.Lists.{ends_above}
 use Rattle.maple_node.specs.Splices.{ending_by, ending_after}
@@ -34,7 +34,7 @@ pub Ascends-left : (start : ℕ) (xs ys : List NodeItem) → Ascends start (xs +
 Ascends-left start [] ys ascends = tt
 Ascends-left start (x ∷ xs) ys ascends = (ascends.0, Ascends-left x.end xs ys ascends.1)
 
-pub Ascends-right : (start : ℕ) (xs ys : List NodeItem) → Ascends start (xs ++ ys) → Ascends (end_of start xs) ys
+pub Ascends-right : (start : ℕ) (xs ys : List NodeItem) → Ascends start (xs ++ ys) → Ascends (items_end start xs) ys
 Ascends-right start [] ys ascends = ascends
 Ascends-right start (x ∷ xs) ys ascends = Ascends-right x.end xs ys ascends.1
 
@@ -43,67 +43,67 @@ pub AllFrom-left : (P : ℕ → NodeItem → Type 0) (start : ℕ) (xs ys : List
 AllFrom-left P start [] ys all = tt
 AllFrom-left P start (x ∷ xs) ys all = (all.0, AllFrom-left P x.end xs ys all.1)
 
-pub AllFrom-right : (P : ℕ → NodeItem → Type 0) (start : ℕ) (xs ys : List NodeItem) → AllFrom P start (xs ++ ys) → AllFrom P (end_of start xs) ys
+pub AllFrom-right : (P : ℕ → NodeItem → Type 0) (start : ℕ) (xs ys : List NodeItem) → AllFrom P start (xs ++ ys) → AllFrom P (items_end start xs) ys
 AllFrom-right P start [] ys all = all
 AllFrom-right P start (x ∷ xs) ys all = AllFrom-right P x.end xs ys all.1
 
-pub AllFrom-append : (P : ℕ → NodeItem → Type 0) (start : ℕ) (xs ys : List NodeItem) → AllFrom P start xs → AllFrom P (end_of start xs) ys
+pub AllFrom-append : (P : ℕ → NodeItem → Type 0) (start : ℕ) (xs ys : List NodeItem) → AllFrom P start xs → AllFrom P (items_end start xs) ys
     → AllFrom P start (xs ++ ys)
 AllFrom-append P start [] ys left right = right
 AllFrom-append P start (x ∷ xs) ys left right = (left.0, AllFrom-append P x.end xs ys left.1 right)
 
 -- joined entries keep no gap where both parts keep none
-pub IsPlain-left : (leaf : Bool) (xs ys : List NodeItem) → IsPlain leaf (xs ++ ys) → IsPlain leaf xs
+pub IsPlain-left : (leaf : Bool) (xs ys : List NodeItem) → KeepsNoGap leaf (xs ++ ys) → KeepsNoGap leaf xs
 IsPlain-left leaf [] ys plain = tt
 IsPlain-left true (x ∷ xs) ys plain = (plain.0, IsPlain-left true xs ys plain.1)
 IsPlain-left false (x ∷ xs) ys plain = IsPlain-left false xs ys plain
 
-pub IsPlain-right : (leaf : Bool) (xs ys : List NodeItem) → IsPlain leaf (xs ++ ys) → IsPlain leaf ys
+pub IsPlain-right : (leaf : Bool) (xs ys : List NodeItem) → KeepsNoGap leaf (xs ++ ys) → KeepsNoGap leaf ys
 IsPlain-right leaf [] ys plain = plain
 IsPlain-right true (x ∷ xs) ys plain = IsPlain-right true xs ys plain.1
 IsPlain-right false (x ∷ xs) ys plain = IsPlain-right false xs ys plain
 
-pub IsPlain-append : (leaf : Bool) (xs ys : List NodeItem) → IsPlain leaf xs → IsPlain leaf ys → IsPlain leaf (xs ++ ys)
+pub IsPlain-append : (leaf : Bool) (xs ys : List NodeItem) → KeepsNoGap leaf xs → KeepsNoGap leaf ys → KeepsNoGap leaf (xs ++ ys)
 IsPlain-append leaf [] ys left right = right
 IsPlain-append true (x ∷ xs) ys left right = (left.0, IsPlain-append true xs ys left.1 right)
 IsPlain-append false (x ∷ xs) ys left right = IsPlain-append false xs ys left right
 
-pub IsPlain-ending_by : (leaf : Bool) (page : ℕ) (xs : List NodeItem) → IsPlain leaf xs → IsPlain leaf (ending_by page xs)
+pub IsPlain-ending_by : (leaf : Bool) (page : ℕ) (xs : List NodeItem) → KeepsNoGap leaf xs → KeepsNoGap leaf (ending_by page xs)
 IsPlain-ending_by leaf page [] plain = tt
-IsPlain-ending_by true page (x ∷ xs) plain = elim (cases_lt page x.end) as (λ _. IsPlain true (ending_by page (x ∷ xs))) [
+IsPlain-ending_by true page (x ∷ xs) plain = elim (cases_lt page x.end) as (λ _. KeepsNoGap true (ending_by page (x ∷ xs))) [
   | inl above ↦ rw (ending_by-later page x xs above) (IsPlain-ending_by true page xs plain.1)
   | inr within ↦ rw (ending_by-first page x xs within) (plain.0, IsPlain-ending_by true page xs plain.1)
 ]
-IsPlain-ending_by false page (x ∷ xs) plain = elim (cases_lt page x.end) as (λ _. IsPlain false (ending_by page (x ∷ xs))) [
+IsPlain-ending_by false page (x ∷ xs) plain = elim (cases_lt page x.end) as (λ _. KeepsNoGap false (ending_by page (x ∷ xs))) [
   | inl above ↦ rw (ending_by-later page x xs above) (IsPlain-ending_by false page xs plain)
   | inr within ↦ rw (ending_by-first page x xs within) (IsPlain-ending_by false page xs plain)
 ]
 
-pub IsPlain-ending_after : (leaf : Bool) (page : ℕ) (xs : List NodeItem) → IsPlain leaf xs → IsPlain leaf (ending_after page xs)
+pub IsPlain-ending_after : (leaf : Bool) (page : ℕ) (xs : List NodeItem) → KeepsNoGap leaf xs → KeepsNoGap leaf (ending_after page xs)
 IsPlain-ending_after leaf page [] plain = tt
-IsPlain-ending_after true page (x ∷ xs) plain = elim (cases_lt page x.end) as (λ _. IsPlain true (ending_after page (x ∷ xs))) [
+IsPlain-ending_after true page (x ∷ xs) plain = elim (cases_lt page x.end) as (λ _. KeepsNoGap true (ending_after page (x ∷ xs))) [
   | inl above ↦ rw (ending_after-first page x xs above) (plain.0, IsPlain-ending_after true page xs plain.1)
   | inr within ↦ rw (ending_after-later page x xs within) (IsPlain-ending_after true page xs plain.1)
 ]
-IsPlain-ending_after false page (x ∷ xs) plain = elim (cases_lt page x.end) as (λ _. IsPlain false (ending_after page (x ∷ xs))) [
+IsPlain-ending_after false page (x ∷ xs) plain = elim (cases_lt page x.end) as (λ _. KeepsNoGap false (ending_after page (x ∷ xs))) [
   | inl above ↦ rw (ending_after-first page x xs above) (IsPlain-ending_after false page xs plain)
   | inr within ↦ rw (ending_after-later page x xs within) (IsPlain-ending_after false page xs plain)
 ]
 
 -- items that end up to a page, or begin there or above it
-pub ending_by_all : (start page : ℕ) (xs : List NodeItem) → Ascends start xs → end_of start xs ≤ page → ending_by page xs ≡ xs
+pub ending_by_all : (start page : ℕ) (xs : List NodeItem) → Ascends start xs → items_end start xs ≤ page → ending_by page xs ≡ xs
 ending_by_all start page [] ascends ends = refl
 ending_by_all start page (x ∷ xs) ascends ends =
     let later = ends_above x.end xs ascends.1 in
     rw (ending_by-first page x xs (omega arith)) (ap (λ (ys : List NodeItem). x ∷ ys) (ending_by_all x.end page xs ascends.1 ends))
 
-pub ending_after_none : (start page : ℕ) (xs : List NodeItem) → Ascends start xs → end_of start xs ≤ page → ending_after page xs ≡ []
+pub ending_after_none : (start page : ℕ) (xs : List NodeItem) → Ascends start xs → items_end start xs ≤ page → ending_after page xs ≡ []
 ending_after_none start page [] ascends ends = refl
 ending_after_none start page (x ∷ xs) ascends ends =
     let later = ends_above x.end xs ascends.1 in
     rw (ending_after-later page x xs (omega arith)) (ending_after_none x.end page xs ascends.1 ends)
 
-pub item_at-past : (start page : ℕ) (xs : List NodeItem) → Ascends start xs → end_of start xs ≤ page → item_at page xs ≡ None
+pub item_at-past : (start page : ℕ) (xs : List NodeItem) → Ascends start xs → items_end start xs ≤ page → item_at page xs ≡ None
 item_at-past start page [] ascends ends = refl
 item_at-past start page (x ∷ xs) ascends ends =
     let later = ends_above x.end xs ascends.1 in
@@ -139,15 +139,15 @@ ending_by-ending_after start page (x ∷ xs) ascends = elim (cases_lt page x.end
 ]
 
 -- they end up to the page
-pub ending_by_below : (start page : ℕ) (xs : List NodeItem) → start ≤ page → end_of start (ending_by page xs) ≤ page
+pub ending_by_below : (start page : ℕ) (xs : List NodeItem) → start ≤ page → items_end start (ending_by page xs) ≤ page
 ending_by_below start page [] begins = begins
-ending_by_below start page (x ∷ xs) begins = elim (cases_lt page x.end) as (λ _. end_of start (ending_by page (x ∷ xs)) ≤ page) [
+ending_by_below start page (x ∷ xs) begins = elim (cases_lt page x.end) as (λ _. items_end start (ending_by page (x ∷ xs)) ≤ page) [
   | inl above ↦ rw (ending_by-later page x xs above) (ending_by_below start page xs begins)
   | inr within ↦ rw (ending_by-first page x xs within) (ending_by_below x.end page xs within)
 ]
 
 -- and where they begin or above it
-pub end_ending_by : (start page : ℕ) (xs : List NodeItem) → Ascends start xs → start ≤ end_of start (ending_by page xs)
+pub end_ending_by : (start page : ℕ) (xs : List NodeItem) → Ascends start xs → start ≤ items_end start (ending_by page xs)
 end_ending_by start page xs ascends =
     let joined : Ascends start (ending_by page xs ++ ending_after page xs) =
     let whole : List NodeItem → Type 0 = λ ys. Ascends start ys in subst whole (sym (ending_by-ending_after start page xs ascends)) ascends in
@@ -182,7 +182,7 @@ room_left place before list some items is short there room =
 -- the item that has a page is the first of those that end above it
 pub record Stands (start page : ℕ) (xs : List NodeItem) (item : NodeItem) : Type 0 where
   pub above : page < item.end
-  pub within : item.end ≤ end_of start xs
+  pub within : item.end ≤ items_end start xs
   pub ending_after : ending_after page xs ≡ item ∷ ending_after item.end xs
 
 pub stands : (start page : ℕ) (xs : List NodeItem) (item : NodeItem) → Ascends start xs → item_at page xs ≡ Some item → Stands start page xs item
@@ -208,9 +208,9 @@ stands start page (x ∷ xs) item ascends found = elim (cases_lt page x.end) as 
 ]
 
 -- no item has a page where they end or above that
-pub item_at-none : (start page : ℕ) (xs : List NodeItem) → item_at page xs ≡ None → start ≤ page → end_of start xs ≤ page
+pub item_at-none : (start page : ℕ) (xs : List NodeItem) → item_at page xs ≡ None → start ≤ page → items_end start xs ≤ page
 item_at-none start page [] none begins = begins
-item_at-none start page (x ∷ xs) none begins = elim (cases_lt page x.end) as (λ _. end_of start (x ∷ xs) ≤ page) [
+item_at-none start page (x ∷ xs) none begins = elim (cases_lt page x.end) as (λ _. items_end start (x ∷ xs) ≤ page) [
   | inl above ↦ let first = sym (item_at-first page x xs above) ∙ none in absurd (cc)
   | inr within ↦ item_at-none x.end page xs (sym (item_at-later page x xs within) ∙ none) within
 ]
@@ -220,7 +220,7 @@ pub record Found (page : ℕ) (xs : List NodeItem) : Type 0 where
   pub item : NodeItem
   pub is : item_at page xs ≡ Some item
 
-pub found_at : (start page : ℕ) (xs : List NodeItem) → start ≤ page → page < end_of start xs → Found page xs
+pub found_at : (start page : ℕ) (xs : List NodeItem) → start ≤ page → page < items_end start xs → Found page xs
 found_at start page [] begins within = absurd (omega arith)
 found_at start page (x ∷ xs) begins within = elim (cases_lt page x.end) as (λ _. Found page (x ∷ xs)) [
   | inl above ↦ record { item = x; is = item_at-first page x xs above }
@@ -229,14 +229,14 @@ found_at start page (x ∷ xs) begins within = elim (cases_lt page x.end) as (λ
 ]
 
 -- it is among the first ones where these end above the page, and otherwise among the others
-pub item_at-left : (start page : ℕ) (xs ys : List NodeItem) → start ≤ page → page < end_of start xs → item_at page (xs ++ ys) ≡ item_at page xs
+pub item_at-left : (start page : ℕ) (xs ys : List NodeItem) → start ≤ page → page < items_end start xs → item_at page (xs ++ ys) ≡ item_at page xs
 item_at-left start page [] ys begins within = absurd (omega arith)
 item_at-left start page (x ∷ xs) ys begins within = elim (cases_lt page x.end) as (λ _. item_at page (x ∷ (xs ++ ys)) ≡ item_at page (x ∷ xs)) [
   | inl above ↦ item_at-first page x (xs ++ ys) above ∙ sym (item_at-first page x xs above)
   | inr later ↦ item_at-later page x (xs ++ ys) later ∙ item_at-left x.end page xs ys later within ∙ sym (item_at-later page x xs later)
 ]
 
-pub item_at-right : (start page : ℕ) (xs ys : List NodeItem) → Ascends start xs → end_of start xs ≤ page → item_at page (xs ++ ys) ≡ item_at page ys
+pub item_at-right : (start page : ℕ) (xs ys : List NodeItem) → Ascends start xs → items_end start xs ≤ page → item_at page (xs ++ ys) ≡ item_at page ys
 item_at-right start page [] ys ascends ends = refl
 item_at-right start page (x ∷ xs) ys ascends ends =
     let later = ends_above x.end xs ascends.1 in
@@ -244,10 +244,10 @@ item_at-right start page (x ∷ xs) ys ascends ends =
 
 -- what holds of each item and the page where it begins holds of the one that has a page
 pub AllFrom-at : (P : ℕ → NodeItem → Type 0) (start page : ℕ) (xs : List NodeItem) (item : NodeItem) → Ascends start xs → AllFrom P start xs
-    → item_at page xs ≡ Some item → P (end_of start (ending_by page xs)) item
+    → item_at page xs ≡ Some item → P (items_end start (ending_by page xs)) item
 AllFrom-at P start page [] item ascends all found = absurd (cc)
 AllFrom-at P start page (x ∷ xs) item ascends all found =
-    let Holds : List NodeItem → Type 0 = λ ys. P (end_of start ys) item in
+    let Holds : List NodeItem → Type 0 = λ ys. P (items_end start ys) item in
     elim (cases_lt page x.end) as (λ _. Holds (ending_by page (x ∷ xs))) [
       | inl above ↦
           let first : Some x ≡ Some item = sym (item_at-first page x xs above) ∙ found in
@@ -266,10 +266,10 @@ ending_after-ascends start page (x ∷ xs) ascends begins = elim (cases_lt page 
   | inr within ↦ rw (ending_after-later page x xs within) (ending_after-ascends x.end page xs ascends.1 within)
 ]
 
-pub ending_after-ends : (start page : ℕ) (xs : List NodeItem) → Ascends start xs → start ≤ page → page ≤ end_of start xs
-    → end_of page (ending_after page xs) ≡ end_of start xs
+pub ending_after-ends : (start page : ℕ) (xs : List NodeItem) → Ascends start xs → start ≤ page → page ≤ items_end start xs
+    → items_end page (ending_after page xs) ≡ items_end start xs
 ending_after-ends start page [] ascends begins within = omega arith
-ending_after-ends start page (x ∷ xs) ascends begins within = elim (cases_lt page x.end) as (λ _. end_of page (ending_after page (x ∷ xs)) ≡ end_of x.end xs) [
+ending_after-ends start page (x ∷ xs) ascends begins within = elim (cases_lt page x.end) as (λ _. items_end page (ending_after page (x ∷ xs)) ≡ items_end x.end xs) [
   | inl above ↦ rw (ending_after_first start page x xs ascends above) refl
   | inr later ↦ rw (ending_after-later page x xs later) (ending_after-ends x.end page xs ascends.1 later within)
 ]

@@ -17,4 +17,5 @@ pub mod Lists
 pub mod Levels
 pub mod Frames
 pub mod Trees
+pub mod Subtrees
 pub mod Reading

@@ -5,10 +5,10 @@ use Rattle.std.proofs.lemmas.Slice.{take-put_mid}
 use borrow.Rule.Slice.PartMut.{put_mid}
 use Rattle.std.specs.List.{flat_map}
 use Rattle.maple_node.specs.declared.item.NodeItem.{NodeItem}
-use Rattle.maple_node.specs.Nodes.{item_words, words_of, most}
+use Rattle.maple_node.specs.Nodes.{item_words, words_of_items, most}
 use Rattle.maple_node.proofs.Packing.{length-leaf_words, length-inner_words}
 use Rattle.maple_node.specs.Codec.{width_of}
-use Rattle.maple_node.specs.Padding.{padded, IsPadded}
+use Rattle.maple_node.specs.Padding.{padded_node, IsPadded}
 
 -- items have two words each in a leaf, and three in an inner node
 pub length-words : (leaf : Bool) (items : List NodeItem) → length (flat_map (item_words leaf) items) ≡ width_of leaf * length items
@@ -22,8 +22,8 @@ room_more true used place items room there = omega arith
 room_more false used place items room there = omega arith
 
 -- all words of items are those of their node
-pub padded-words : (leaf : Bool) (items : List NodeItem) → padded (flat_map (item_words leaf) items) ≡ words_of leaf items
-unfolding words_of
+pub padded-words : (leaf : Bool) (items : List NodeItem) → padded_node (flat_map (item_words leaf) items) ≡ words_of_items leaf items
+unfolding words_of_items
 padded-words leaf items = refl
 
 -- a node has room for the most items that it may have
@@ -45,11 +45,11 @@ made_room leaf made xs words i few within is =
       fits false used at count long few within = omega arith
 
 pub made_words : {A : Type 0} → (leaf : Bool) (made : A → NodeItem) (xs : List A) (words : List ℕ) (i : ℕ) → i ≡ length xs
-    → words ≡ flat_map (item_words leaf) (take i (map made xs)) → padded words ≡ words_of leaf (map made xs)
+    → words ≡ flat_map (item_words leaf) (take i (map made xs)) → padded_node words ≡ words_of_items leaf (map made xs)
 made_words leaf made xs words i all is =
     let items = map made xs in
     let whole : take i items ≡ items = take_all i items (omega (arith, length-map xs made)) in
-    ap padded (is ∙ ap (flat_map (item_words leaf)) whole) ∙ padded-words leaf items
+    ap padded_node (is ∙ ap (flat_map (item_words leaf)) whole) ∙ padded-words leaf items
 
 -- words that are added
 pub record Added (used count : ℕ) (words added : List ℕ) : Type 0 where
@@ -75,7 +75,7 @@ added_words used count words added before sized long room =
       padded_so = record {
         fits = room;
         rest = ap (λ (zs : List ℕ). front ++ (added ++ zs)) (rest ∙ ap (λ (n : ℕ). replicate n 0) left)
-            ∙ sym (assoc front added (replicate (32 - length (front ++ added)) 0)) ∙ ap padded (sym view);
+            ∙ sym (assoc front added (replicate (32 - length (front ++ added)) 0)) ∙ ap padded_node (sym view);
       };
     } where
       assoc : (xs ys zs : List ℕ) → (xs ++ ys) ++ zs ≡ xs ++ (ys ++ zs)

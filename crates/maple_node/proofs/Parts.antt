@@ -4,7 +4,7 @@ use Rattle.std.proofs.lemmas.List.{length-drop}
 use Rattle.std.proofs.lemmas.Bool.{cases_lt}
 use Rattle.std.proofs.lemmas.Bool.Decides.{nat_tests}
 use Rattle.maple_node.specs.declared.item.NodeItem.{NodeItem}
-use Rattle.maple_node.specs.Nodes.{leaf_items, inner_items, items_of, most}
+use Rattle.maple_node.specs.Nodes.{leaf_items, inner_items, node_items, most}
 use Rattle.maple_node.specs.declared.part.Part.{Part}
 use Rattle.maple_node.specs.declared.part.Part.TheVariants.{Whole, EndingBy, EndingAfter}
 use Rattle.maple_node.specs.Codec.{width_of, listed_at}
@@ -14,16 +14,16 @@ use Rattle.maple_node.proofs.Listed.{short_leaf, short_inner}
 
 -- the item at a place that is used
 pub listed_there : (leaf : Bool) (words : List ℕ) (place : ℕ) → place + width_of leaf ≤ length words → get_or words place 0 ≢ 0
-    → items_of leaf (drop place words) ≡ listed_at leaf words place ∷ items_of leaf (drop (place + width_of leaf) words)
+    → node_items leaf (drop place words) ≡ listed_at leaf words place ∷ node_items leaf (drop (place + width_of leaf) words)
 listed_there true words place room some = leaf_items-more words place room some
 listed_there false words place room some = inner_items-more words place room some
 
 -- none at a place that is not, and none where there is no room for one
-pub listed_none : (leaf : Bool) (words : List ℕ) (place : ℕ) → place < length words → get_or words place 0 ≡ 0 → items_of leaf (drop place words) ≡ []
+pub listed_none : (leaf : Bool) (words : List ℕ) (place : ℕ) → place < length words → get_or words place 0 ≡ 0 → node_items leaf (drop place words) ≡ []
 listed_none true words place room zero = leaf_items-zero words place room zero
 listed_none false words place room zero = inner_items-zero words place room zero
 
-pub listed_past : (leaf : Bool) (words : List ℕ) (place : ℕ) → length words < place + width_of leaf → items_of leaf (drop place words) ≡ []
+pub listed_past : (leaf : Bool) (words : List ℕ) (place : ℕ) → length words < place + width_of leaf → node_items leaf (drop place words) ≡ []
 listed_past true words place past = short_leaf (drop place words) (omega (arith, length-drop place words))
 listed_past false words place past = short_inner (drop place words) (omega (arith, length-drop place words))
 
@@ -68,14 +68,14 @@ inner_count (end ∷ word ∷ gap ∷ rest) =
     ]
 
 -- so a node has no more than it has place for
-pub few_items : (leaf : Bool) (words : List ℕ) → length words ≡ 32 → length (items_of leaf words) ≤ most leaf
+pub few_items : (leaf : Bool) (words : List ℕ) → length words ≡ 32 → length (node_items leaf words) ≤ most leaf
 few_items true words sized = let count = leaf_count words in omega arith
 few_items false words sized = let count = inner_count words in omega arith
 
 -- the list with a part of what is listed from a place on, as the loop goes on
 pub record Lists (part : Part) (leaf : Bool) (words : List ℕ) (place : ℕ) (before list : List NodeItem) : Type 0 where
-  pub whole : list ++ part_of part (items_of leaf (drop place words)) ≡ before ++ part_of part (items_of leaf words)
-  pub room : length list + length (items_of leaf (drop place words)) ≤ length before + most leaf
+  pub whole : list ++ part_of part (node_items leaf (drop place words)) ≡ before ++ part_of part (node_items leaf words)
+  pub room : length list + length (node_items leaf (drop place words)) ≤ length before + most leaf
 
 -- there is room for one more
 pub room_there : (part : Part) (leaf : Bool) (words : List ℕ) (place : ℕ) (before list : List NodeItem) → Lists part leaf words place before list
@@ -89,7 +89,7 @@ pub lists_more : (part : Part) (leaf : Bool) (words : List ℕ) (place : ℕ) (b
     → next ≡ list ++ listed_at leaf words place ∷ [] → Lists part leaf words (place + width_of leaf) before next
 lists_more part leaf words place before list next is room some kept added =
     let item = listed_at leaf words place in
-    let rest = items_of leaf (drop (place + width_of leaf) words) in
+    let rest = node_items leaf (drop (place + width_of leaf) words) in
     let there = listed_there leaf words place room some in
     let long = ap (λ (xs : List NodeItem). length xs) there in
     record {
@@ -103,7 +103,7 @@ pub lists_less : (part : Part) (leaf : Bool) (words : List ℕ) (place : ℕ) (b
     → Lists part leaf words (place + width_of leaf) before list
 lists_less part leaf words place before list is room some out =
     let item = listed_at leaf words place in
-    let rest = items_of leaf (drop (place + width_of leaf) words) in
+    let rest = node_items leaf (drop (place + width_of leaf) words) in
     let there = listed_there leaf words place room some in
     let long = ap (λ (xs : List NodeItem). length xs) there in
     record {
@@ -113,6 +113,6 @@ lists_less part leaf words place before list is room some out =
 
 -- nothing is listed from the place on
 pub lists_all : (part : Part) (leaf : Bool) (words : List ℕ) (place : ℕ) (before list : List NodeItem) → Lists part leaf words place before list
-    → items_of leaf (drop place words) ≡ [] → list ≡ before ++ part_of part (items_of leaf words)
+    → node_items leaf (drop place words) ≡ [] → list ≡ before ++ part_of part (node_items leaf words)
 lists_all part leaf words place before list is none =
     sym (append-nil list) ∙ ap (λ (xs : List NodeItem). list ++ xs) (sym (ap (part_of part) none ∙ part_none part)) ∙ is.whole

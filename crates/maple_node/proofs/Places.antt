@@ -4,7 +4,7 @@ use Rattle.std.proofs.lemmas.List.{length-replicate}
 use Rattle.std.proofs.lemmas.Bool.Decides.{nat_tests}
 use Rattle.std.specs.List.{flat_map}
 use Rattle.maple_node.specs.declared.item.NodeItem.{NodeItem}
-use Rattle.maple_node.specs.Nodes.{item_words, words_of, leaf_items, inner_items, items_of, Ascends, IsPlain}
+use Rattle.maple_node.specs.Nodes.{item_words, words_of_items, leaf_items, inner_items, node_items, Ascends, KeepsNoGap}
 
 -- what stands at an unused place
 abbrev pub unused : NodeItem
@@ -44,7 +44,7 @@ inner_gap (item ∷ items) n zero = refl
 inner_gap (item ∷ items) n (suc i) = let e : 3 * suc i + 2 ≡ suc (suc (suc (3 * i + 2))) = omega arith in rw e (inner_gap items n i)
 
 -- the items of a node's words, where their ends are not 0 and a leaf's keep no gap
-leaf_items-words : (start n : ℕ) (items : List NodeItem) → Ascends start items → IsPlain true items
+leaf_items-words : (start n : ℕ) (items : List NodeItem) → Ascends start items → KeepsNoGap true items
     → leaf_items (flat_map (item_words true) items ++ replicate n 0) ≡ items
 unfolding leaf_items
 leaf_items-words start zero [] ascends plain = refl
@@ -68,15 +68,15 @@ inner_items-words start n (item ∷ items) ascends =
     rw (some, inner_items-words item.end n items ascends.1)
 
 -- the items of the words of items
-pub items_of_words : (leaf : Bool) (start : ℕ) (items : List NodeItem) → Ascends start items → IsPlain leaf items
-    → items_of leaf (words_of leaf items) ≡ items
-unfolding words_of
+pub items_of_words : (leaf : Bool) (start : ℕ) (items : List NodeItem) → Ascends start items → KeepsNoGap leaf items
+    → node_items leaf (words_of_items leaf items) ≡ items
+unfolding words_of_items
 items_of_words true start items ascends plain = leaf_items-words start (32 - length (flat_map (item_words true) items)) items ascends plain
 items_of_words false start items ascends plain = inner_items-words start (32 - length (flat_map (item_words false) items)) items ascends
 
 -- a node has 32 words, where its items have room
-pub length-words_of : (leaf : Bool) (items : List NodeItem) → length (flat_map (item_words leaf) items) ≤ 32 → length (words_of leaf items) ≡ 32
-unfolding words_of
+pub length-words_of : (leaf : Bool) (items : List NodeItem) → length (flat_map (item_words leaf) items) ≤ 32 → length (words_of_items leaf items) ≡ 32
+unfolding words_of_items
 length-words_of leaf items room =
     let front = flat_map (item_words leaf) items in
     omega (arith, length-append front (replicate (32 - length front) 0), length-replicate {A = ℕ} (32 - length front) 0)
@@ -88,23 +88,23 @@ ends_past start (item ∷ items) zero d ascends within = ascends.0
 ends_past start (item ∷ items) (suc i) d ascends within = let later = ends_past item.end items i d ascends.1 (omega arith) in omega (arith, ascends.0)
 
 -- the words of a leaf at each place
-pub leaf-ends : (items : List NodeItem) (i : ℕ) → get_or (words_of true items) (2 * i) 0 ≡ (get_or items i unused).end
-unfolding words_of
+pub leaf-ends : (items : List NodeItem) (i : ℕ) → get_or (words_of_items true items) (2 * i) 0 ≡ (get_or items i unused).end
+unfolding words_of_items
 leaf-ends items i = leaf_end items (32 - length (flat_map (item_words true) items)) i
 
-pub leaf-words : (items : List NodeItem) (i : ℕ) → get_or (words_of true items) (2 * i + 1) 0 ≡ (get_or items i unused).word
-unfolding words_of
+pub leaf-words : (items : List NodeItem) (i : ℕ) → get_or (words_of_items true items) (2 * i + 1) 0 ≡ (get_or items i unused).word
+unfolding words_of_items
 leaf-words items i = leaf_word items (32 - length (flat_map (item_words true) items)) i
 
 -- the words of an inner node at each place
-pub inner-ends : (items : List NodeItem) (i : ℕ) → get_or (words_of false items) (3 * i) 0 ≡ (get_or items i unused).end
-unfolding words_of
+pub inner-ends : (items : List NodeItem) (i : ℕ) → get_or (words_of_items false items) (3 * i) 0 ≡ (get_or items i unused).end
+unfolding words_of_items
 inner-ends items i = inner_end items (32 - length (flat_map (item_words false) items)) i
 
-pub inner-words : (items : List NodeItem) (i : ℕ) → get_or (words_of false items) (3 * i + 1) 0 ≡ (get_or items i unused).word
-unfolding words_of
+pub inner-words : (items : List NodeItem) (i : ℕ) → get_or (words_of_items false items) (3 * i + 1) 0 ≡ (get_or items i unused).word
+unfolding words_of_items
 inner-words items i = inner_word items (32 - length (flat_map (item_words false) items)) i
 
-pub inner-gaps : (items : List NodeItem) (i : ℕ) → get_or (words_of false items) (3 * i + 2) 0 ≡ (get_or items i unused).gap
-unfolding words_of
+pub inner-gaps : (items : List NodeItem) (i : ℕ) → get_or (words_of_items false items) (3 * i + 2) 0 ≡ (get_or items i unused).gap
+unfolding words_of_items
 inner-gaps items i = inner_gap items (32 - length (flat_map (item_words false) items)) i

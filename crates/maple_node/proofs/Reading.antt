@@ -7,24 +7,24 @@ use Rattle.std.specs.List.{slice_get}
 use Rattle.std.specs.Option.{option_map}
 use Rattle.mm_types.specs.declared.slot.Row.{Row}
 use Rattle.maple_node.specs.declared.item.NodeItem.{NodeItem}
-use Rattle.maple_node.specs.Nodes.{leaf_items, IsPlain}
-use Rattle.maple_node.specs.Levels.{read, IsNode}
+use Rattle.maple_node.specs.Nodes.{leaf_items, KeepsNoGap}
+use Rattle.maple_node.specs.Levels.{items_at, IsNode}
 use Rattle.maple_node.specs.Words.{Entry, Child, slot_of, entry_item, child_item, leaf_entry, inner_child}
 use Rattle.maple_node.proofs.Places.{unused, ends_past, leaf-ends, leaf-words, inner-ends, inner-words, inner-gaps}
 use Rattle.maple_node.proofs.Entries.{slot_word-slot_of, leaf_reads, leaf_unused}
 use Rattle.maple_node.proofs.Children.{inner_reads, inner_unused}
 
 -- the entries of a leaf keep no gap
-leaf_items-plain : (words : List ℕ) → IsPlain true (leaf_items words)
+leaf_items-plain : (words : List ℕ) → KeepsNoGap true (leaf_items words)
 unfolding leaf_items
 leaf_items-plain [] = tt
 leaf_items-plain (end ∷ []) = tt
 leaf_items-plain (end ∷ word ∷ rest) =
     let item : NodeItem = record { end = end; word = word; gap = 0 } in
-    elim (nat_eq end 0) as (λ b. IsPlain true (if b then [] else (item ∷ leaf_items rest))) [ true ↦ tt | false ↦ (refl, leaf_items-plain rest) ]
+    elim (nat_eq end 0) as (λ b. KeepsNoGap true (if b then [] else (item ∷ leaf_items rest))) [ true ↦ tt | false ↦ (refl, leaf_items-plain rest) ]
 
 -- each of plain items keeps no gap
-plain_at : (items : List NodeItem) (i : ℕ) → IsPlain true items → (get_or items i unused).gap ≡ 0
+plain_at : (items : List NodeItem) (i : ℕ) → KeepsNoGap true items → (get_or items i unused).gap ≡ 0
 plain_at [] i plain = refl
 plain_at (item ∷ items) zero plain = plain.0
 plain_at (item ∷ items) (suc i) plain = plain_at items i plain.1
@@ -37,10 +37,10 @@ slice_get-past (item ∷ items) (suc i) past = slice_get-past items i (omega ari
 
 -- a leaf by its places
 pub leaf_places : (at : ℕ → List ℕ) (limit start : ℕ) (item : NodeItem) (place : ℕ) → IsNode at true limit start item
-    → All (λ entry. entry.word ≤ 2 ^ 32) (read at true item.word)
-    → option_map entry_item (leaf_entry (at item.word) place) ≡ slice_get (read at true item.word) place
+    → All (λ entry. entry.word ≤ 2 ^ 32) (items_at at true item.word)
+    → option_map entry_item (leaf_entry (at item.word) place) ≡ slice_get (items_at at true item.word) place
 leaf_places at limit start item place node small =
-    let items = read at true item.word in
+    let items = items_at at true item.word in
     let words = at item.word in
     let here = get_or items place unused in
     let end : get_or words (2 * place) 0 ≡ here.end = ap (λ (ws : List ℕ). get_or ws (2 * place) 0) node.words ∙ leaf-ends items place in
@@ -63,10 +63,10 @@ leaf_places at limit start item place node small =
 
 -- an inner node by its places
 pub inner_places : (at : ℕ → List ℕ) (limit start : ℕ) (item : NodeItem) (place : ℕ) → IsNode at false limit start item
-    → All (λ child. child.word < 2 ^ 32) (read at false item.word)
-    → option_map child_item (inner_child (at item.word) place) ≡ slice_get (read at false item.word) place
+    → All (λ child. child.word < 2 ^ 32) (items_at at false item.word)
+    → option_map child_item (inner_child (at item.word) place) ≡ slice_get (items_at at false item.word) place
 inner_places at limit start item place node small =
-    let items = read at false item.word in
+    let items = items_at at false item.word in
     let words = at item.word in
     let here = get_or items place unused in
     let end : get_or words (3 * place) 0 ≡ here.end = ap (λ (ws : List ℕ). get_or ws (3 * place) 0) node.words ∙ inner-ends items place in

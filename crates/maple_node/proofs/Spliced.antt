@@ -4,10 +4,10 @@ use Rattle.std.proofs.lemmas.List.{take_at, drop_at, length-take-le, length-drop
 use Rattle.std.proofs.lemmas.Grind.{flat_map-append}
 use Rattle.std.specs.List.{flat_map}
 use Rattle.maple_node.specs.declared.item.NodeItem.{NodeItem}
-use Rattle.maple_node.specs.Nodes.{item_words, words_of, items_of, most, end_of, Ascends, item_gap, gap_of}
+use Rattle.maple_node.specs.Nodes.{item_words, words_of_items, node_items, most, items_end, Ascends, item_gap, gap_of}
 use Rattle.maple_node.specs.Splices.{ending_by, ending_after, spliced}
 use Rattle.maple_node.specs.Codec.{width_of, listed_at}
-use Rattle.maple_node.specs.Padding.{padded}
+use Rattle.maple_node.specs.Padding.{padded_node}
 use Rattle.maple_node.specs.Internal.Counts.{IsCounted}
 use Rattle.maple_node.proofs.ItemLists.{ending_by-first, ending_by_first, ending_by_all, ending_by-ending_after, length-ending_by}
 use Rattle.maple_node.proofs.Parts.{listed_there}
@@ -28,13 +28,13 @@ pub ending_by_more : (leaf : Bool) (page place : ℕ) (words : List ℕ) → IsC
     → get_or words place 0 ≢ 0 → get_or words place 0 ≤ page → IsCounted leaf page (place + width_of leaf) words
 ending_by_more leaf page place words is room some ends =
     let item = listed_at leaf words place in
-    let rest = items_of leaf (drop (place + width_of leaf) words) in
+    let rest = node_items leaf (drop (place + width_of leaf) words) in
     let there = listed_there leaf words place room some in
     let end = ends_at leaf words place in
     let more = ap (λ (xs : List NodeItem). length (ending_by page xs)) there ∙ ap (λ (xs : List NodeItem). length xs) (ending_by-first page item rest (omega arith)) in
     let ascends = subst (Ascends 0) there is.ascends in
     record {
-      count = counted leaf (length (ending_by page (items_of leaf words))) (length (ending_by page (items_of leaf (drop place words)))) (length (ending_by page rest))
+      count = counted leaf (length (ending_by page (node_items leaf words))) (length (ending_by page (node_items leaf (drop place words)))) (length (ending_by page rest))
           place is.count more;
       ascends = ascends_from item.end 0 rest (omega arith) ascends.1;
     } where
@@ -44,8 +44,8 @@ ending_by_more leaf page place words is room some ends =
       counted false all here later at is more = omega arith
 
 -- no item from the place on does
-pub ending_by_done : (leaf : Bool) (page place : ℕ) (words : List ℕ) → IsCounted leaf page place words → ending_by page (items_of leaf (drop place words)) ≡ []
-    → place ≡ width_of leaf * length (ending_by page (items_of leaf words))
+pub ending_by_done : (leaf : Bool) (page place : ℕ) (words : List ℕ) → IsCounted leaf page place words → ending_by page (node_items leaf (drop place words)) ≡ []
+    → place ≡ width_of leaf * length (ending_by page (node_items leaf words))
 ending_by_done leaf page place words is none =
     let long = ap (λ (xs : List NodeItem). width_of leaf * length xs) none in
     let zero : width_of leaf * 0 ≡ 0 = omega arith in
@@ -53,18 +53,18 @@ ending_by_done leaf page place words is none =
     omega arith
 
 pub ending_by_past : (leaf : Bool) (page place : ℕ) (words : List ℕ) → IsCounted leaf page place words → place + width_of leaf ≤ length words
-    → get_or words place 0 ≢ 0 → page < get_or words place 0 → ending_by page (items_of leaf (drop place words)) ≡ []
+    → get_or words place 0 ≢ 0 → page < get_or words place 0 → ending_by page (node_items leaf (drop place words)) ≡ []
 ending_by_past leaf page place words is room some above =
     let item = listed_at leaf words place in
-    let rest = items_of leaf (drop (place + width_of leaf) words) in
+    let rest = node_items leaf (drop (place + width_of leaf) words) in
     let there = listed_there leaf words place room some in
     let end = ends_at leaf words place in
     ap (ending_by page) there ∙ ending_by_first 0 page item rest (subst (Ascends 0) there is.ascends) (omega arith)
 
 -- the largest gap is that of the items before a place or of those from it on, which begin at `begin`
 pub record Gapped (leaf : Bool) (start place begin largest : ℕ) (words : List ℕ) : Type 0 where
-  pub gap : gap_of leaf start (items_of leaf words) ≡ max largest (gap_of leaf begin (items_of leaf (drop place words)))
-  pub ascends : Ascends begin (items_of leaf (drop place words))
+  pub gap : gap_of leaf start (node_items leaf words) ≡ max largest (gap_of leaf begin (node_items leaf (drop place words)))
+  pub ascends : Ascends begin (node_items leaf (drop place words))
 
 pub gapped_more : (leaf : Bool) (start place begin largest gap : ℕ) (words : List ℕ) → Gapped leaf start place begin largest words
     → place + width_of leaf ≤ length words → get_or words place 0 ≢ 0
@@ -72,17 +72,17 @@ pub gapped_more : (leaf : Bool) (start place begin largest gap : ℕ) (words : L
     → Gapped leaf start (place + width_of leaf) (listed_at leaf words place).end gap words
 gapped_more leaf start place begin largest gap words is room some told =
     let item = listed_at leaf words place in
-    let rest = items_of leaf (drop (place + width_of leaf) words) in
+    let rest = node_items leaf (drop (place + width_of leaf) words) in
     let there = listed_there leaf words place room some in
     let one = item_gap leaf begin item in
     let others = gap_of leaf item.end rest in
-    let all : gap_of leaf start (items_of leaf words) ≡ max largest (max one others) = is.gap ∙ ap (λ (xs : List NodeItem). max largest (gap_of leaf begin xs)) there in
+    let all : gap_of leaf start (node_items leaf words) ≡ max largest (max one others) = is.gap ∙ ap (λ (xs : List NodeItem). max largest (gap_of leaf begin xs)) there in
     record { gap = omega arith; ascends = (subst (Ascends begin) there is.ascends).1 }
 
 pub gapped_all : (leaf : Bool) (start place begin largest : ℕ) (words : List ℕ) → Gapped leaf start place begin largest words
-    → items_of leaf (drop place words) ≡ [] → largest ≡ gap_of leaf start (items_of leaf words)
+    → node_items leaf (drop place words) ≡ [] → largest ≡ gap_of leaf start (node_items leaf words)
 gapped_all leaf start place begin largest words is none =
-    let all : gap_of leaf start (items_of leaf words) ≡ max largest 0 = is.gap ∙ ap (λ (xs : List NodeItem). max largest (gap_of leaf begin xs)) none in
+    let all : gap_of leaf start (node_items leaf words) ≡ max largest 0 = is.gap ∙ ap (λ (xs : List NodeItem). max largest (gap_of leaf begin xs)) none in
     omega arith
 
 -- the words of the items up to a page, and of those above another one
@@ -90,8 +90,8 @@ pub record Parted (leaf : Bool) (lo hi before past used : ℕ) (words : List ℕ
   pub before_used : before ≤ used
   pub past_used : past ≤ used
   pub within : used ≤ length words
-  pub front : take before words ≡ flat_map (item_words leaf) (ending_by lo (items_of leaf words))
-  pub back : take (used - past) (drop past words) ≡ flat_map (item_words leaf) (ending_after hi (items_of leaf words))
+  pub front : take before words ≡ flat_map (item_words leaf) (ending_by lo (node_items leaf words))
+  pub back : take (used - past) (drop past words) ≡ flat_map (item_words leaf) (ending_after hi (node_items leaf words))
 
 -- fewer items have fewer words
 ordered : (leaf : Bool) (a b m n : ℕ) → a ≡ width_of leaf * m → b ≡ width_of leaf * n → m ≤ n → a ≤ b
@@ -103,13 +103,13 @@ backs : (leaf : Bool) (past used back up_hi all : ℕ) → past ≡ width_of lea
 backs true past used back up_hi all a b c = omega arith
 backs false past used back up_hi all a b c = omega arith
 
-pub parted : (leaf : Bool) (lo hi end before past used : ℕ) (words : List ℕ) → Ascends 0 (items_of leaf words)
-    → words ≡ words_of leaf (items_of leaf words) → end_of 0 (items_of leaf words) ≤ end
-    → before ≡ width_of leaf * length (ending_by lo (items_of leaf words)) → past ≡ width_of leaf * length (ending_by hi (items_of leaf words))
-    → used ≡ width_of leaf * length (ending_by end (items_of leaf words)) → Parted leaf lo hi before past used words
-unfolding words_of
+pub parted : (leaf : Bool) (lo hi end before past used : ℕ) (words : List ℕ) → Ascends 0 (node_items leaf words)
+    → words ≡ words_of_items leaf (node_items leaf words) → items_end 0 (node_items leaf words) ≤ end
+    → before ≡ width_of leaf * length (ending_by lo (node_items leaf words)) → past ≡ width_of leaf * length (ending_by hi (node_items leaf words))
+    → used ≡ width_of leaf * length (ending_by end (node_items leaf words)) → Parted leaf lo hi before past used words
+unfolding words_of_items
 parted leaf lo hi end before past used words ascends whole ends at_lo at_hi at_end =
-    let items = items_of leaf words in
+    let items = node_items leaf words in
     let F : List NodeItem → List ℕ = flat_map (item_words leaf) in
     let zeros : List ℕ = replicate (32 - length (F items)) 0 in
     let all : ending_by end items ≡ items = ending_by_all 0 end items ascends ends in
@@ -141,11 +141,11 @@ joined_words true before back a b new some whole p q r s = omega arith
 joined_words false before back a b new some whole p q r s = omega arith
 
 pub count_is : (leaf : Bool) (lo hi before past used : ℕ) (words : List ℕ) (new : List NodeItem) → before ≤ length words → used ≤ length words
-    → past ≤ used → take before words ≡ flat_map (item_words leaf) (ending_by lo (items_of leaf words))
-    → take (used - past) (drop past words) ≡ flat_map (item_words leaf) (ending_after hi (items_of leaf words))
-    → before + width_of leaf * length new + (used - past) ≡ width_of leaf * length (spliced lo hi new (items_of leaf words))
+    → past ≤ used → take before words ≡ flat_map (item_words leaf) (ending_by lo (node_items leaf words))
+    → take (used - past) (drop past words) ≡ flat_map (item_words leaf) (ending_after hi (node_items leaf words))
+    → before + width_of leaf * length new + (used - past) ≡ width_of leaf * length (spliced lo hi new (node_items leaf words))
 count_is leaf lo hi before past used words new low within order front back =
-    let items = items_of leaf words in
+    let items = node_items leaf words in
     let first : before ≡ width_of leaf * length (ending_by lo items) =
     sym (length-take-le before words low) ∙ ap (λ (ws : List ℕ). length ws) front ∙ length-words leaf (ending_by lo items) in
     let rest = length-drop past words in
@@ -156,12 +156,12 @@ count_is leaf lo hi before past used words new low within order front back =
 
 -- they are the words of a node
 pub spliced_is : (leaf : Bool) (lo hi : ℕ) (new items : List NodeItem)
-    → padded ((flat_map (item_words leaf) (ending_by lo items) ++ flat_map (item_words leaf) new) ++ flat_map (item_words leaf) (ending_after hi items))
-    ≡ words_of leaf (spliced lo hi new items)
-unfolding words_of
+    → padded_node ((flat_map (item_words leaf) (ending_by lo items) ++ flat_map (item_words leaf) new) ++ flat_map (item_words leaf) (ending_after hi items))
+    ≡ words_of_items leaf (spliced lo hi new items)
+unfolding words_of_items
 spliced_is leaf lo hi new items =
     let F : List NodeItem → List ℕ = flat_map (item_words leaf) in
-    ap padded (append_assoc (F (ending_by lo items)) (F new) (F (ending_after hi items))
+    ap padded_node (append_assoc (F (ending_by lo items)) (F new) (F (ending_after hi items))
     ∙ ap (λ (ws : List ℕ). F (ending_by lo items) ++ ws) (sym (flat_map-append (item_words leaf) new (ending_after hi items)))
     ∙ sym (flat_map-append (item_words leaf) (ending_by lo items) (new ++ ending_after hi items)))
 

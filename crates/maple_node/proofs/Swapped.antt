@@ -4,7 +4,7 @@ use Rattle.std.proofs.lemmas.List.{set_at}
 use Rattle.std.proofs.lemmas.Grind.{flat_map-append}
 use Rattle.std.specs.List.{flat_map}
 use Rattle.maple_node.specs.declared.item.NodeItem.{NodeItem}
-use Rattle.maple_node.specs.Nodes.{item_words, words_of, items_of, end_of, Ascends, IsPlain, gap_of}
+use Rattle.maple_node.specs.Nodes.{item_words, words_of_items, node_items, items_end, Ascends, KeepsNoGap, gap_of}
 use Rattle.maple_node.specs.Levels.{item_at}
 use Rattle.maple_node.proofs.Packing.{length-inner_words}
 use Rattle.maple_node.proofs.Places.{items_of_words}
@@ -18,8 +18,8 @@ use Rattle.maple_node.proofs.Spliced.{ending_by_more, ending_by_done}
 -- the children before a place end up to a page, which one from it on has
 pub record Near (page place : ℕ) (words : List ℕ) : Type 0 where
   pub counted : IsCounted false page place words
-  pub found : item_at page (items_of false words) ≡ item_at page (items_of false (drop place words))
-  pub within : page < end_of 0 (items_of false (drop place words))
+  pub found : item_at page (node_items false words) ≡ item_at page (node_items false (drop place words))
+  pub within : page < items_end 0 (node_items false (drop place words))
 
 -- there is one at the place
 pub near_room : (page place : ℕ) (words : List ℕ) → Near page place words → place + 3 ≤ length words
@@ -29,32 +29,32 @@ near_room page place words near = (listed false words place 0 page (omega arith)
 pub near_more : (page place : ℕ) (words : List ℕ) → Near page place words → get_or words place 0 ≤ page → Near page (place + 3) words
 near_more page place words near ends =
     let item = listed_at false words place in
-    let rest = items_of false (drop (place + 3) words) in
+    let rest = node_items false (drop (place + 3) words) in
     let there = listed false words place 0 page (omega arith) near.within in
-    let is : items_of false (drop place words) ≡ item ∷ rest = there.is in
+    let is : node_items false (drop place words) ≡ item ∷ rest = there.is in
     let ascends : Ascends 0 (item ∷ rest) = subst (Ascends 0) is near.counted.ascends in
     let first = ascends.0 in
-    let within : page < end_of item.end rest = subst (λ (xs : List NodeItem). page < end_of 0 xs) is near.within in
+    let within : page < items_end item.end rest = subst (λ (xs : List NodeItem). page < items_end 0 xs) is near.within in
     record {
       counted = ending_by_more false page place words near.counted there.room (omega arith) ends;
       found = near.found ∙ ap (item_at page) is ∙ item_at-later page item rest ends;
       within = end_from item.end page rest ends within;
     } where
-      end_from : (start page : ℕ) (items : List NodeItem) → start ≤ page → page < end_of start items → page < end_of 0 items
+      end_from : (start page : ℕ) (items : List NodeItem) → start ≤ page → page < items_end start items → page < items_end 0 items
       end_from start page [] begins within = absurd (omega arith)
       end_from start page (x ∷ xs) begins within = within
 
 -- it ends above the page
 pub record There (page place : ℕ) (words : List ℕ) : Type 0 where
-  pub at : place ≡ 3 * length (ending_by page (items_of false words))
-  pub item : item_at page (items_of false words) ≡ Some (listed_at false words place)
+  pub at : place ≡ 3 * length (ending_by page (node_items false words))
+  pub item : item_at page (node_items false words) ≡ Some (listed_at false words place)
 
 pub near_there : (page place : ℕ) (words : List ℕ) → Near page place words → page < get_or words place 0 → There page place words
 near_there page place words near past =
     let item = listed_at false words place in
-    let rest = items_of false (drop (place + 3) words) in
+    let rest = node_items false (drop (place + 3) words) in
     let there = listed false words place 0 page (omega arith) near.within in
-    let is : items_of false (drop place words) ≡ item ∷ rest = there.is in
+    let is : node_items false (drop place words) ≡ item ∷ rest = there.is in
     let ascends : Ascends 0 (item ∷ rest) = subst (Ascends 0) is near.counted.ascends in
     record {
       at = ending_by_done false page place words near.counted (ap (ending_by page) is ∙ ending_by_first 0 page item rest ascends past);
@@ -70,24 +70,24 @@ gap_among start (first ∷ xs) ys x =
     omega arith
 
 -- the children of an inner node are plain
-inner_plain : (items : List NodeItem) → IsPlain false items
+inner_plain : (items : List NodeItem) → KeepsNoGap false items
 inner_plain [] = tt
 inner_plain (item ∷ items) = inner_plain items
 
 -- one child takes the place of another that ends where it does
 pub record Swapped (page place : ℕ) (words : List ℕ) (child : NodeItem) : Type 0 where
-  pub put : set (set words (place + 1) child.word) (place + 2) child.gap ≡ words_of false (spliced page child.end (child ∷ []) (items_of false words))
-  pub count : length (spliced page child.end (child ∷ []) (items_of false words)) ≡ length (items_of false words)
-  pub ascends : Ascends 0 (spliced page child.end (child ∷ []) (items_of false words))
+  pub put : set (set words (place + 1) child.word) (place + 2) child.gap ≡ words_of_items false (spliced page child.end (child ∷ []) (node_items false words))
+  pub count : length (spliced page child.end (child ∷ []) (node_items false words)) ≡ length (node_items false words)
+  pub ascends : Ascends 0 (spliced page child.end (child ∷ []) (node_items false words))
   pub others : ℕ
-  pub gap_before : gap_of false 0 (items_of false words) ≡ max (get_or words (place + 2) 0) others
-  pub gap_after : gap_of false 0 (spliced page child.end (child ∷ []) (items_of false words)) ≡ max child.gap others
+  pub gap_before : gap_of false 0 (node_items false words) ≡ max (get_or words (place + 2) 0) others
+  pub gap_after : gap_of false 0 (spliced page child.end (child ∷ []) (node_items false words)) ≡ max child.gap others
 
-pub swapped : (page place : ℕ) (words : List ℕ) (child : NodeItem) → Ascends 0 (items_of false words) → words ≡ words_of false (items_of false words)
+pub swapped : (page place : ℕ) (words : List ℕ) (child : NodeItem) → Ascends 0 (node_items false words) → words ≡ words_of_items false (node_items false words)
     → There page place words → get_or words place 0 ≡ child.end → Swapped page place words child
-unfolding words_of
+unfolding words_of_items
 swapped page place words child ascends whole there ends =
-    let items = items_of false words in
+    let items = node_items false words in
     let item = listed_at false words place in
     let F : List NodeItem → List ℕ = flat_map (item_words false) in
     let front = ending_by page items in
@@ -139,7 +139,7 @@ swapped page place words child ascends whole there ends =
 
 -- the words list the children then
 pub swapped_items : (page place : ℕ) (words : List ℕ) (child : NodeItem) → Swapped page place words child
-    → items_of false (set (set words (place + 1) child.word) (place + 2) child.gap) ≡ spliced page child.end (child ∷ []) (items_of false words)
+    → node_items false (set (set words (place + 1) child.word) (place + 2) child.gap) ≡ spliced page child.end (child ∷ []) (node_items false words)
 swapped_items page place words child is =
-    let new = spliced page child.end (child ∷ []) (items_of false words) in
-    ap (items_of false) is.put ∙ items_of_words false 0 new is.ascends (inner_plain new)
+    let new = spliced page child.end (child ∷ []) (node_items false words) in
+    ap (node_items false) is.put ∙ items_of_words false 0 new is.ascends (inner_plain new)

@@ -4,18 +4,18 @@ use Rattle.std.proofs.lemmas.Bool.{cases_lt}
 use Rattle.std.specs.Prelude.{IsSome, ◌↔◌}
 use Rattle.maple_node.specs.declared.item.NodeItem.{NodeItem}
 use Rattle.maple_node.specs.declared.root.Root.{Root}
-use Rattle.maple_node.specs.Nodes.{items_of, leaf_items, end_of, Ascends, gap_of}
-use Rattle.maple_node.specs.Levels.{is_leaf, read, level_of, IsTower, rows_of, times, Agree, item_at, IsNode}
+use Rattle.maple_node.specs.Nodes.{node_items, leaf_items, items_end, Ascends, gap_of}
+use Rattle.maple_node.specs.Levels.{is_leaf, items_at, level_of, IsTower, rows_below, times_among, Agree, item_at, IsNode}
 use Rattle.maple_node.specs.Trees.{Tree, top_of, tree_of, entries_of, tree_rows, pairs_from, pairs_of, ApartFrom, IsLayout, IsFirst, IsTree}
 use Rattle.maple_node.proofs.Lists.{item_at-some}
 use Rattle.maple_node.proofs.Levels.{level-ascends, level-ends, node_past}
 use Rattle.maple_node.proofs.Frames.{times-first, Agree-sym, rows_of-agree, level_of-agree, tower-agree}
 
 -- the root is among the rows
-root_there : (at : ℕ → List ℕ) (height : ℕ) (top : NodeItem) → 1 ≤ height → 1 ≤ times top.word (rows_of at 0 height (top ∷ []))
-unfolding rows_of
+root_there : (at : ℕ → List ℕ) (height : ℕ) (top : NodeItem) → 1 ≤ height → 1 ≤ times_among top.word (rows_below at 0 height (top ∷ []))
+unfolding rows_below
 root_there at zero top tall = absurd (omega arith)
-root_there at (suc height) top tall = times-first top.word (rows_of at 0 height (read at (is_leaf (0 + height)) top.word ++ []))
+root_there at (suc height) top tall = times-first top.word (rows_below at 0 height (items_at at (is_leaf (0 + height)) top.word ++ []))
 
 -- the same tree in a table that agrees on its rows
 layout-agree : (at other : ℕ → List ℕ) (slots : ℕ) (tree : Tree) → Agree at other (tree_rows at tree)
@@ -27,10 +27,10 @@ layout-agree at other slots tree agree layout =
     record {
       tall = layout.tall;
       tower = tower-agree at other tree.top.end 0 tree.height (tree.top ∷ []) agree layout.tower;
-      wide = λ inner. subst (λ (words : List ℕ). 2 ≤ length (items_of false words)) root (layout.wide inner);
+      wide = λ inner. subst (λ (words : List ℕ). 2 ≤ length (node_items false words)) root (layout.wide inner);
       apart = subst (λ (xs : List NodeItem). ApartFrom 1 xs) entries layout.apart;
       numbered = subst (λ (xs : List NodeItem). All (λ (entry : NodeItem). entry.word ≤ slots) xs) entries layout.numbered;
-      once = λ row. subst (λ (xs : List ℕ). times row xs ≤ 1) same (layout.once row);
+      once = λ row. subst (λ (xs : List ℕ). times_among row xs ≤ 1) same (layout.once row);
     }
 
 pub layout-same : (at other : ℕ → List ℕ) (slots : ℕ) (tree : Tree) → Agree at other (tree_rows at tree)
@@ -49,7 +49,7 @@ pairs-same at other tree agree = ap (λ (xs : List NodeItem). pairs_from 0 xs) (
 tree_of-same : (at other : ℕ → List ℕ) (root : Root) → at root.row.0 ≡ other root.row.0 → tree_of at root ≡ tree_of other root
 tree_of-same at other root same = let leaf = is_leaf (root.height - 1) in
     ap (λ (words : List ℕ). let tree : Tree = record {
-      top = record { end = end_of 0 (items_of leaf words); word = root.row.0; gap = gap_of leaf 0 (items_of leaf words) };
+      top = record { end = items_end 0 (node_items leaf words); word = root.row.0; gap = gap_of leaf 0 (node_items leaf words) };
       height = root.height;
     } in tree) same
 
@@ -59,7 +59,7 @@ first = record { tree = 0; height = 1; row = record { 0 = 0 } }
 
 -- its rows, in any table
 first_rows : (at : ℕ → List ℕ) → tree_rows at (tree_of at first) ≡ 0 ∷ []
-unfolding rows_of first
+unfolding rows_below first
 first_rows at = refl
 
 first_entries : (at : ℕ → List ℕ) → at 0 ≡ replicate 32 0 → entries_of at (tree_of at first) ≡ []
@@ -83,8 +83,8 @@ tree-agree : (at other : ℕ → List ℕ) (slots : ℕ) (root : Root) → Agree
 tree-agree at other slots root agree tree = record {
   first = λ zeroth.
       let is = tree.first zeroth in
-      let there : 1 ≤ times 0 (tree_rows at (tree_of at root)) =
-      subst (λ (xs : List ℕ). 1 ≤ times 0 xs) (sym (first-rows at root is)) (times-first 0 []) in
+      let there : 1 ≤ times_among 0 (tree_rows at (tree_of at root)) =
+      subst (λ (xs : List ℕ). 1 ≤ times_among 0 xs) (sym (first-rows at root is)) (times-first 0 []) in
       record { named = is.named; words = sym (agree 0 there) ∙ is.words };
   later = λ some.
       let layout = tree.later some in
@@ -94,12 +94,12 @@ tree-agree at other slots root agree tree = record {
 }
 
 -- the rows depend on the row of the root
-rows_of-top : (at : ℕ → List ℕ) (height : ℕ) (x y : NodeItem) → x.word ≡ y.word → rows_of at 0 height (x ∷ []) ≡ rows_of at 0 height (y ∷ [])
-unfolding rows_of
+rows_of-top : (at : ℕ → List ℕ) (height : ℕ) (x y : NodeItem) → x.word ≡ y.word → rows_below at 0 height (x ∷ []) ≡ rows_below at 0 height (y ∷ [])
+unfolding rows_below
 rows_of-top at zero x y same = refl
 rows_of-top at (suc height) x y same =
     let leaf = is_leaf (0 + height) in
-    ap (λ (row : ℕ). row ∷ rows_of at 0 height (read at leaf row ++ [])) same
+    ap (λ (row : ℕ). row ∷ rows_below at 0 height (items_at at leaf row ++ [])) same
 
 pub tree-same : (at other : ℕ → List ℕ) (slots : ℕ) (root : Root) → Agree at other (tree_rows at (tree_of at root))
     → IsTree at slots root ↔ IsTree other slots root
@@ -122,7 +122,7 @@ top_node at limit (suc height) top tall tower =
 
 -- it stands in the rows once
 pub root-once : (at : ℕ → List ℕ) (slots : ℕ) (tree : Tree) → IsLayout at slots tree
-    → times tree.top.word (tree_rows at tree) ≡ 1
+    → times_among tree.top.word (tree_rows at tree) ≡ 1
 root-once at slots tree layout =
     let there = root_there at tree.height tree.top layout.tall in
     let once = layout.once tree.top.word in
@@ -136,7 +136,7 @@ root-named at slots tree layout =
     let node = top_node at top.end tree.height top layout.tall layout.tower in
     let told : ℕ → ℕ → NodeItem = λ end gap. record { end = end; word = top.word; gap = gap } in
     ap (λ (end : ℕ). told end top.gap) (sym node.until)
-    ∙ ap (λ (gap : ℕ). told (end_of 0 (read at (is_leaf (tree.height - 1)) top.word)) gap) (sym node.gap)
+    ∙ ap (λ (gap : ℕ). told (items_end 0 (items_at at (is_leaf (tree.height - 1)) top.word)) gap) (sym node.gap)
 
 -- a tree has pages
 pub limit_above : (at : ℕ → List ℕ) (slots : ℕ) (tree : Tree) → IsLayout at slots tree → 0 < tree.top.end
@@ -150,7 +150,7 @@ entries-ascend at slots tree layout =
 
 -- the last ends at the limit
 pub entries-end : (at : ℕ → List ℕ) (slots : ℕ) (tree : Tree) → IsLayout at slots tree
-    → end_of 0 (entries_of at tree) ≡ tree.top.end
+    → items_end 0 (entries_of at tree) ≡ tree.top.end
 entries-end at slots tree layout = level-ends at tree.top.end 0 tree.height (tree.top ∷ []) layout.tower
 
 -- each page below it is in one
@@ -160,14 +160,14 @@ entry_there at slots tree page layout within =
     let end = entries-end at slots tree layout in
     item_at-some page 0 (entries_of at tree) (omega arith) (omega arith)
 
-single_once : (row other : ℕ) → times row (other ∷ []) ≤ 1
+single_once : (row other : ℕ) → times_among row (other ∷ []) ≤ 1
 single_once row other = elim (nat_eq other row) as (λ b. (if b then 1 else 0) + 0 ≤ 1) [ true ↦ omega arith | false ↦ omega arith ]
 
 -- no row of a tree is reached twice
-pub rows-once : (at : ℕ → List ℕ) (slots : ℕ) (root : Root) (row : ℕ) → IsTree at slots root → times row (tree_rows at (tree_of at root)) ≤ 1
-rows-once at slots root row tree = elim (cases_lt 0 root.tree) as (λ _. times row (tree_rows at (tree_of at root)) ≤ 1) [
+pub rows-once : (at : ℕ → List ℕ) (slots : ℕ) (root : Root) (row : ℕ) → IsTree at slots root → times_among row (tree_rows at (tree_of at root)) ≤ 1
+rows-once at slots root row tree = elim (cases_lt 0 root.tree) as (λ _. times_among row (tree_rows at (tree_of at root)) ≤ 1) [
   | inl some ↦ (tree.later some).once row
-  | inr none ↦ subst (λ (xs : List ℕ). times row xs ≤ 1) (sym (first-rows at root (tree.first (omega arith)))) (single_once row 0)
+  | inr none ↦ subst (λ (xs : List ℕ). times_among row xs ≤ 1) (sym (first-rows at root (tree.first (omega arith)))) (single_once row 0)
 ]
 
 -- a root of a later number, with the tree's row and height, shows it

@@ -4,7 +4,7 @@ use Rattle.std.proofs.lemmas.List.{drop_more}
 use Rattle.std.proofs.lemmas.Bool.Decides.{nat_tests}
 use Rattle.std.specs.List.{flat_map}
 use Rattle.maple_node.specs.declared.item.NodeItem.{NodeItem}
-use Rattle.maple_node.specs.Nodes.{item_words, words_of, leaf_items, inner_items, items_of, IsPlain}
+use Rattle.maple_node.specs.Nodes.{item_words, words_of_items, leaf_items, inner_items, node_items, KeepsNoGap}
 
 -- an entry that the words of a leaf begin with
 pub leaf_items-more : (words : List ℕ) (place : ℕ) → place + 2 ≤ length words → get_or words place 0 ≢ 0
@@ -64,7 +64,7 @@ all_rest : (x : NodeItem) (xs : List NodeItem) → All (λ (item : NodeItem). 0 
 all_rest x xs all = λ k d within. all (suc k) d (omega arith)
 
 -- the items of the words of a leaf, and of an inner node
-leaf_read : (n : ℕ) (items : List NodeItem) → All (λ (item : NodeItem). 0 < item.end) items → IsPlain true items
+leaf_read : (n : ℕ) (items : List NodeItem) → All (λ (item : NodeItem). 0 < item.end) items → KeepsNoGap true items
     → leaf_items (flat_map (item_words true) items ++ replicate n 0) ≡ items
 unfolding leaf_items
 leaf_read zero [] ends plain = refl
@@ -88,8 +88,8 @@ inner_read n (item ∷ items) ends =
     rw (some, inner_read n items (all_rest item items ends))
 
 -- what is written is read
-pub items_read : (leaf : Bool) (items : List NodeItem) → All (λ (item : NodeItem). 0 < item.end) items → IsPlain leaf items
-    → items_of leaf (words_of leaf items) ≡ items
-unfolding words_of
+pub items_read : (leaf : Bool) (items : List NodeItem) → All (λ (item : NodeItem). 0 < item.end) items → KeepsNoGap leaf items
+    → node_items leaf (words_of_items leaf items) ≡ items
+unfolding words_of_items
 items_read true items ends plain = leaf_read (32 - length (flat_map (item_words true) items)) items ends plain
 items_read false items ends plain = inner_read (32 - length (flat_map (item_words false) items)) items ends

@@ -9,3 +9,4 @@ pub mod Padding
 pub mod Levels
 pub mod Roots
 pub mod Trees
+pub mod Subtrees

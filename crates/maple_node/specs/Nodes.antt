@@ -9,8 +9,8 @@ item_words true item = item.end ∷ item.word ∷ []
 item_words false item = item.end ∷ item.word ∷ item.gap ∷ []
 
 -- the words of a node: those of its items in order, and then zeros up to 32
-unfoldable pub words_of : Bool → List NodeItem → List ℕ
-words_of leaf items = flat_map (item_words leaf) items ++ replicate (32 - length (flat_map (item_words leaf) items)) 0
+unfoldable pub words_of_items : Bool → List NodeItem → List ℕ
+words_of_items leaf items = flat_map (item_words leaf) items ++ replicate (32 - length (flat_map (item_words leaf) items)) 0
 
 -- the items of a leaf: two words each, up to the first place whose first word is 0
 unfoldable pub leaf_items : List ℕ → List NodeItem
@@ -26,9 +26,9 @@ inner_items (end ∷ word ∷ []) = []
 inner_items (end ∷ word ∷ gap ∷ rest) = if nat_eq end 0 then [] else (record { end = end; word = word; gap = gap } ∷ inner_items rest)
 
 -- the items of a node: the entries of a leaf, or the children of an inner node
-abbrev pub items_of : Bool → List ℕ → List NodeItem
-items_of true words = leaf_items words
-items_of false words = inner_items words
+abbrev pub node_items : Bool → List ℕ → List NodeItem
+node_items true words = leaf_items words
+node_items false words = inner_items words
 
 -- how many items a node has at most: a leaf 16, an inner node 10
 abbrev pub most : Bool → ℕ
@@ -36,14 +36,14 @@ most true = 16
 most false = 10
 
 -- how many items a node has at least: a leaf 6, an inner node 4
-abbrev pub least : Bool → ℕ
-least true = 6
-least false = 4
+abbrev pub least_items : Bool → ℕ
+least_items true = 6
+least_items false = 4
 
 -- the page where items end that begin at a page
-abbrev pub end_of : ℕ → List NodeItem → ℕ
-end_of start [] = start
-end_of start (item ∷ items) = end_of item.end items
+abbrev pub items_end : ℕ → List NodeItem → ℕ
+items_end start [] = start
+items_end start (item ∷ items) = items_end item.end items
 
 -- each item ends above the one before, and the first above the page where they begin
 abbrev pub Ascends : ℕ → List NodeItem → Type 0
@@ -61,7 +61,7 @@ gap_of leaf start [] = 0
 gap_of leaf start (item ∷ items) = max (item_gap leaf start item) (gap_of leaf item.end items)
 
 -- the entries of a leaf keep no gap
-abbrev pub IsPlain : Bool → List NodeItem → Type 0
-IsPlain leaf [] = Unit {0}
-IsPlain true (item ∷ items) = (item.gap ≡ 0) × IsPlain true items
-IsPlain false (item ∷ items) = IsPlain false items
+abbrev pub KeepsNoGap : Bool → List NodeItem → Type 0
+KeepsNoGap leaf [] = Unit {0}
+KeepsNoGap true (item ∷ items) = (item.gap ≡ 0) × KeepsNoGap true items
+KeepsNoGap false (item ∷ items) = KeepsNoGap false items

@@ -5,22 +5,22 @@ use Rattle.std.specs.Option.{option_map}
 use Rattle.maple_node.specs.Trees.{Pair, pair_of}
 
 -- the part of a pair below a page
-abbrev pub lower_part : ℕ → Pair → List Pair
-lower_part page pair = if nat_lt pair.lo page then (record { lo = pair.lo; hi = min pair.hi page; slot = pair.slot } ∷ []) else []
+abbrev pub pair_below : ℕ → Pair → List Pair
+pair_below page pair = if nat_lt pair.lo page then (record { lo = pair.lo; hi = min pair.hi page; slot = pair.slot } ∷ []) else []
 
 -- the part of a pair from a page on
-abbrev pub upper_part : ℕ → Pair → List Pair
-upper_part page pair = if nat_lt page pair.hi then (record { lo = max pair.lo page; hi = pair.hi; slot = pair.slot } ∷ []) else []
+abbrev pub pair_from : ℕ → Pair → List Pair
+pair_from page pair = if nat_lt page pair.hi then (record { lo = max pair.lo page; hi = pair.hi; slot = pair.slot } ∷ []) else []
 
 -- pairs with the pages from `lo` up to `hi` overwritten by the slot that a word tells, or by none
 abbrev pub overwritten : ℕ → ℕ → ℕ → List Pair → List Pair
-overwritten lo hi word pairs = flat_map (lower_part lo) pairs
-    ++ (pair_of lo (record { end = hi; word = word; gap = 0 }) ++ flat_map (upper_part hi) pairs)
+overwritten lo hi word pairs = flat_map (pair_below lo) pairs
+    ++ (pair_of lo (record { end = hi; word = word; gap = 0 }) ++ flat_map (pair_from hi) pairs)
 
 -- whether a pair has a page
-abbrev pub has_page : ℕ → Pair → Bool
-has_page page pair = nat_le pair.lo page && nat_lt page pair.hi
+abbrev pub pair_has_page : ℕ → Pair → Bool
+pair_has_page page pair = nat_le pair.lo page && nat_lt page pair.hi
 
 -- the slot that pairs give a page, or none
-abbrev pub slot_at : ℕ → List Pair → Option ℕ
-slot_at page pairs = option_map (λ pair. pair.slot) (find (has_page page) pairs)
+abbrev pub paired_slot : ℕ → List Pair → Option ℕ
+paired_slot page pairs = option_map (λ pair. pair.slot) (find (pair_has_page page) pairs)

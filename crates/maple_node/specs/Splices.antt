@@ -2,7 +2,7 @@
 use Rattle.std.specs.Prelude.{ℕ, ◌-◌, List, [], ◌∷◌, ◌++◌, Option, Some, None, if◌then◌else◌, nat_eq, nat_lt, nat_le}
 use Rattle.std.specs.List.{filter}
 use Rattle.maple_node.specs.declared.item.NodeItem.{NodeItem}
-use Rattle.maple_node.specs.Nodes.{end_of}
+use Rattle.maple_node.specs.Nodes.{items_end}
 use Rattle.maple_node.specs.Levels.{item_at}
 
 -- the items that end up to a page
@@ -24,7 +24,7 @@ piece_of start page (Some item) = if nat_lt start page then (record { end = page
 
 -- that part of entries that begin at page 0
 unfoldable pub piece_below : ℕ → List NodeItem → List NodeItem
-piece_below page entries = piece_of (end_of 0 (ending_by page entries)) page (item_at page entries)
+piece_below page entries = piece_of (items_end 0 (ending_by page entries)) page (item_at page entries)
 
 -- entries with one that has this word for the pages from `lo` up to `hi`, in the place of what they had
 abbrev pub overwrite : ℕ → ℕ → ℕ → List NodeItem → List NodeItem
@@ -37,7 +37,7 @@ gap_begin start page (Some item) = if nat_eq item.word 0 then start else page
 
 -- where a gap from a page on begins, with the gap that has the page before
 unfoldable pub widened_lo : ℕ → List NodeItem → ℕ
-widened_lo page entries = if nat_eq page 0 then 0 else gap_begin (end_of 0 (ending_by (page - 1) entries)) page (item_at (page - 1) entries)
+widened_lo page entries = if nat_eq page 0 then 0 else gap_begin (items_end 0 (ending_by (page - 1) entries)) page (item_at (page - 1) entries)
 
 -- where an entry ends if it is a gap, and otherwise the page
 abbrev pub gap_end : ℕ → Option NodeItem → ℕ

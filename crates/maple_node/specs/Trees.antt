@@ -2,8 +2,8 @@
 use Rattle.std.specs.Prelude.{ℕ, ◌≡◌, ◌≤◌, ◌-◌, false, List, [], ◌∷◌, ◌++◌, length, All, replicate, if◌then◌else◌, nat_eq}
 use Rattle.maple_node.specs.declared.item.NodeItem.{NodeItem}
 use Rattle.maple_node.specs.declared.root.Root.{Root}
-use Rattle.maple_node.specs.Nodes.{end_of, gap_of}
-use Rattle.maple_node.specs.Levels.{is_leaf, read, IsTower, level_of, rows_of, times}
+use Rattle.maple_node.specs.Nodes.{items_end, gap_of}
+use Rattle.maple_node.specs.Levels.{is_leaf, items_at, IsTower, level_of, rows_below, times_among}
 
 -- a tree as seen from above: the item of its root, which ends at the limit, and its height
 pub record Tree : Type 0 where
@@ -12,8 +12,8 @@ pub record Tree : Type 0 where
 
 -- the item of a node from page 0 on, as its row tells
 abbrev pub top_of : (ℕ → List ℕ) → ℕ → ℕ → NodeItem
-top_of at height row = let leaf = is_leaf (height - 1) in let items = read at leaf row in
-    record { end = end_of 0 items; word = row; gap = gap_of leaf 0 items }
+top_of at height row = let leaf = is_leaf (height - 1) in let items = items_at at leaf row in
+    record { end = items_end 0 items; word = row; gap = gap_of leaf 0 items }
 
 -- the tree that a root names
 abbrev pub tree_of : (ℕ → List ℕ) → Root → Tree
@@ -25,7 +25,7 @@ entries_of at tree = level_of at 0 tree.height (tree.top ∷ [])
 
 -- the rows of a tree: those that are reached from its root, the root first, and each row as often as it is a child
 abbrev pub tree_rows : (ℕ → List ℕ) → Tree → List ℕ
-tree_rows at tree = rows_of at 0 tree.height (tree.top ∷ [])
+tree_rows at tree = rows_below at 0 tree.height (tree.top ∷ [])
 
 -- a pair: the pages from lo up to hi have a slot
 pub record Pair : Type 0 where
@@ -58,13 +58,13 @@ pub record IsLayout (at : ℕ → List ℕ) (slots : ℕ) (tree : Tree) : Type 0
   -- from the root down to the leaves, each row that is pointed to is a node
   pub tower : IsTower at tree.top.end 0 tree.height (tree.top ∷ [])
   -- a root that is no leaf has at least 2 children
-  pub wide : 2 ≤ tree.height → 2 ≤ length (read at false tree.top.word)
+  pub wide : 2 ≤ tree.height → 2 ≤ length (items_at at false tree.top.word)
   -- two gaps never follow each other in the whole tree
   pub apart : ApartFrom 1 (entries_of at tree)
   -- an entry's word is 0 for a gap, or the number of one of so many slots plus 1
   pub numbered : All (λ entry. entry.word ≤ slots) (entries_of at tree)
   -- each of its rows is reached once: the root is no child, and each other row is a child once
-  pub once : (row : ℕ) → times row (tree_rows at tree) ≤ 1
+  pub once : (row : ℕ) → times_among row (tree_rows at tree) ≤ 1
 
 -- tree 0: a leaf without entries, in row 0, whose words are all 0
 pub record IsFirst (at : ℕ → List ℕ) (root : Root) : Type 0 where

@@ -1,7 +1,7 @@
 //! How the words of a node tell its items, one after another, and how many items it may have.
 
 ghost use Rattle.std.specs.Prelude.{◌≡◌, ◌≤◌, ◌+◌, ◌^◌};
-ghost use Rattle.maple_node.specs.Nodes.{most, least};
+ghost use Rattle.maple_node.specs.Nodes.{most, least_items};
 ghost use Rattle.maple_node.specs.Codec.{width_of, listed_at};
 ghost use Rattle.maple_node.specs.Words.{slot_word, slot_of};
 
@@ -20,7 +20,7 @@ pub fn most(leaf: bool) -> usize
 
 /// How many items a node has at least, if it does not end at the limit of the tree: a leaf 6, an inner node 4.
 pub fn least(leaf: bool) -> usize
-    ensures { result ≡ least leaf }
+    ensures { result ≡ least_items leaf }
 {
     if leaf { 6 } else { 4 }
 }

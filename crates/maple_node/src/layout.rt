@@ -1,7 +1,7 @@
 //! Nodes as rows of 32 words.
 
 ghost use Rattle.std.specs.Prelude.{◌≡◌, ◌≤◌, ℕ, List, map, length, slice_get, true, false};
-ghost use Rattle.maple_node.specs.Nodes.{words_of, items_of, Ascends};
+ghost use Rattle.maple_node.specs.Nodes.{words_of_items, node_items, Ascends};
 ghost use Rattle.maple_node.specs.Words.{
   Entry,
   Child,
@@ -44,7 +44,7 @@ impl Layout<16> {
     pub fn leaf_words(entries: &[(u64, Option<Slot>)]) -> [u64; 32]
         requires few { length entries.now ≤ 16 }
         requires ascends { Ascends 0 (map entry_item entries.now) }
-        ensures { result ≡ words_of true (map entry_item entries.now) }
+        ensures { result ≡ words_of_items true (map entry_item entries.now) }
     {
         let mut words = NodeWords::new();
         for entry in entries {
@@ -78,7 +78,7 @@ impl Layout<10> {
     pub fn inner_words(children: &[(u64, Row, u64)]) -> [u64; 32]
         requires few { length children.now ≤ 10 }
         requires ascends { Ascends 0 (map child_item children.now) }
-        ensures { result ≡ words_of false (map child_item children.now) }
+        ensures { result ≡ words_of_items false (map child_item children.now) }
     {
         let mut words = NodeWords::new();
         for child in children {
@@ -97,23 +97,23 @@ impl Layout<10> {
 /// last entry. Words that read as entries, and are 0 after them, are the words of these entries.
 pub fn leaf_packing_is_undone()
     ensures read_back { (entries : List Entry) (place : ℕ) → FitsLeaf entries
-        → leaf_entry (words_of true (map entry_item entries)) place ≡ slice_get entries place }
+        → leaf_entry (words_of_items true (map entry_item entries)) place ≡ slice_get entries place }
     ensures items { (entries : List Entry) → FitsLeaf entries
-        → items_of true (words_of true (map entry_item entries)) ≡ map entry_item entries }
-    ensures shown { (entries : List Entry) → FitsLeaf entries → IsLeafOf (words_of true (map entry_item entries)) entries }
+        → node_items true (words_of_items true (map entry_item entries)) ≡ map entry_item entries }
+    ensures shown { (entries : List Entry) → FitsLeaf entries → IsLeafOf (words_of_items true (map entry_item entries)) entries }
     ensures written_back { (words : List ℕ) (entries : List Entry) → IsLeafOf words entries
-        → words_of true (map entry_item entries) ≡ words }
+        → words_of_items true (map entry_item entries) ≡ words }
 {}
 
 /// Packing the children of an inner node and reading them undo each other: each place is read back, and there is nothing
 /// past the last child. Words that read as children, and are 0 after them, are the words of these children.
 pub fn inner_packing_is_undone()
     ensures read_back { (children : List Child) (place : ℕ) → FitsInner children
-        → inner_child (words_of false (map child_item children)) place ≡ slice_get children place }
+        → inner_child (words_of_items false (map child_item children)) place ≡ slice_get children place }
     ensures items { (children : List Child) → FitsInner children
-        → items_of false (words_of false (map child_item children)) ≡ map child_item children }
+        → node_items false (words_of_items false (map child_item children)) ≡ map child_item children }
     ensures shown { (children : List Child) → FitsInner children
-        → IsInnerOf (words_of false (map child_item children)) children }
+        → IsInnerOf (words_of_items false (map child_item children)) children }
     ensures written_back { (words : List ℕ) (children : List Child) → IsInnerOf words children
-        → words_of false (map child_item children) ≡ words }
+        → words_of_items false (map child_item children) ≡ words }
 {}

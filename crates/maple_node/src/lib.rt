@@ -81,8 +81,8 @@ pub use item_laws::{
     gaps_stay_apart, overwriting_replaces_pairs, overwritten_pages, written_items_are_read,
 };
 pub use laws::{
-    depends_on_its_rows, entries_cover_pages, first_tree_is_empty, nodes_are_read_by_place,
-    root_stands_once, rows_are_reached_once,
+    depends_on_its_rows, entries_cover_pages, first_tree_is_empty, levels_are_subtrees,
+    nodes_are_read_by_place, root_stands_once, rows_are_reached_once,
 };
 pub use layout::{Layout, inner_packing_is_undone, leaf_packing_is_undone};
 pub use list::{ItemList, push_all, push_ending_after};

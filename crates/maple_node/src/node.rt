@@ -1,14 +1,14 @@
 //! Nodes: whether they list an item, their largest gap, and how items are shared out among them.
 
 ghost use Rattle.std.specs.Prelude.{◌≡◌, ◌<◌, ◌≤◌, ◌-◌, ◌*◌, Bool, true, false, [], length};
-ghost use Rattle.maple_node.specs.Nodes.{items_of, most, least, item_gap};
+ghost use Rattle.maple_node.specs.Nodes.{node_items, most, least_items, item_gap};
 
 use crate::{NodeItem, least, most};
 
 /// Whether the words of a node, of either kind, list no item.
 pub fn lists_nothing(words: &[u64; 32]) -> bool
-    ensures none { (leaf : Bool) → result ≡ true → items_of leaf words.now ≡ [] }
-    ensures some { (leaf : Bool) → result ≡ false → 1 ≤ length (items_of leaf words.now) }
+    ensures none { (leaf : Bool) → result ≡ true → node_items leaf words.now ≡ [] }
+    ensures some { (leaf : Bool) → result ≡ false → 1 ≤ length (node_items leaf words.now) }
 {
     words[0] == 0
 }
@@ -34,8 +34,8 @@ pub fn share(leaf: bool, rest: usize) -> usize
     ensures some { 1 ≤ result }
     ensures within { result ≤ rest }
     ensures most { result ≤ most leaf }
-    ensures full { result < rest → least leaf ≤ result }
-    ensures left { result < rest → least leaf ≤ rest - result }
+    ensures full { result < rest → least_items leaf ≤ result }
+    ensures left { result < rest → least_items leaf ≤ rest - result }
     ensures one { rest ≤ most leaf → result ≡ rest }
     ensures two { rest ≤ 2 * most leaf → rest - result ≤ most leaf }
     ensures three { rest ≤ 3 * most leaf → rest - result ≤ 2 * most leaf }

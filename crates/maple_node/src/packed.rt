@@ -2,9 +2,9 @@
 
 ghost use Rattle.std.specs.Prelude.{◌≡◌, ◌<◌, ◌≤◌, ◌+◌, ◌*◌, [], ◌∷◌, ◌++◌, length};
 ghost use Rattle.std.specs.List.{flat_map};
-ghost use Rattle.maple_node.specs.Nodes.{item_words, words_of, most};
+ghost use Rattle.maple_node.specs.Nodes.{item_words, words_of_items, most};
 ghost use Rattle.maple_node.specs.Codec.{width_of};
-ghost use Rattle.maple_node.specs.Padding.{padded};
+ghost use Rattle.maple_node.specs.Padding.{padded_node};
 
 use crate::codec::NODE_WORDS;
 use crate::item::NodeItem;
@@ -41,14 +41,14 @@ impl NodeWords {
 
     /// All 32 words.
     pub fn words(&self) -> &[u64; 32]
-        ensures { result.now ≡ padded self.now }
+        ensures { result.now ≡ padded_node self.now }
     {
         &self.words
     }
 
     /// All 32 words, by value.
     pub(crate) fn into_words(self) -> [u64; 32]
-        ensures { result ≡ padded self }
+        ensures { result ≡ padded_node self }
     {
         self.words
     }
@@ -98,7 +98,7 @@ impl NodeWords {
 /// The words of a node with these items: of an entry its end and its word, of a child also its largest gap; then zeros.
 pub fn node_words(leaf: bool, items: &[NodeItem]) -> [u64; 32]
     requires { length items.now ≤ most leaf }
-    ensures { result ≡ words_of leaf items.now }
+    ensures { result ≡ words_of_items leaf items.now }
 {
     let mut words = NodeWords::new();
     words.push_items(leaf, items);

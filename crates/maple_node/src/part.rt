@@ -1,7 +1,7 @@
 //! Parts of nodes, as their words tell them.
 
 ghost use Rattle.std.specs.Prelude.{◌≡◌, ◌≤◌, ◌+◌, ◌++◌, length};
-ghost use Rattle.maple_node.specs.Nodes.{items_of, most};
+ghost use Rattle.maple_node.specs.Nodes.{node_items, most};
 ghost use Rattle.maple_node.specs.Parts.{keeps, part_of};
 
 use crate::list::ItemList;
@@ -34,7 +34,7 @@ impl Part {
 /// Adds a part of the items of a node, as its words list them. No other list of them is made.
 pub fn push_part(list: &mut ItemList, part: Part, leaf: bool, words: &[u64; 32])
     requires { length list.old.items + most leaf ≤ 40 }
-    ensures items { list.new.items ≡ list.old.items ++ part_of part (items_of leaf words.now) }
+    ensures items { list.new.items ≡ list.old.items ++ part_of part (node_items leaf words.now) }
     ensures most { length list.new.items ≤ length list.old.items + most leaf }
 {
     let width = width_of(leaf);

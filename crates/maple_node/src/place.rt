@@ -1,7 +1,7 @@
 //! The item that has a page.
 
 ghost use Rattle.std.specs.Prelude.{◌≡◌, ◌<◌, ◌≤◌, Some};
-ghost use Rattle.maple_node.specs.Nodes.{items_of, Ascends, end_of};
+ghost use Rattle.maple_node.specs.Nodes.{node_items, Ascends, items_end};
 ghost use Rattle.maple_node.specs.Levels.{item_at};
 ghost use Rattle.maple_node.specs.Splices.{ending_by};
 
@@ -19,11 +19,11 @@ pub struct Place {
 /// The item of a node that has `page`, as the words of the node tell, where its first item begins at `start`. No list of the
 /// others is made.
 pub fn item_in(leaf: bool, words: &[u64; 32], start: u64, page: u64) -> Place
-    requires ascends { Ascends start (items_of leaf words.now) }
+    requires ascends { Ascends start (node_items leaf words.now) }
     requires above { start ≤ page }
-    requires within { page < end_of start (items_of leaf words.now) }
-    ensures item { item_at page (items_of leaf words.now) ≡ Some result.item }
-    ensures start { result.start ≡ end_of start (ending_by page (items_of leaf words.now)) }
+    requires within { page < items_end start (node_items leaf words.now) }
+    ensures item { item_at page (node_items leaf words.now) ≡ Some result.item }
+    ensures start { result.start ≡ items_end start (ending_by page (node_items leaf words.now)) }
     ensures above { result.start ≤ page }
 {
     let width = width_of(leaf);

@@ -5,8 +5,8 @@ use Rattle.std.proofs.lemmas.Bool.Decides.{nat_tests}
 use Rattle.std.specs.Prelude.{nat_lt}
 use Rattle.std.specs.Option.{option_and_then}
 use Rattle.maple_node.specs.declared.item.NodeItem.{NodeItem}
-use Rattle.maple_node.specs.Nodes.{end_of, Ascends}
-use Rattle.maple_node.specs.Levels.{is_leaf, read, below, item_at, AllFrom, IsNode, level_of, IsTower, times}
+use Rattle.maple_node.specs.Nodes.{items_end, Ascends}
+use Rattle.maple_node.specs.Levels.{is_leaf, items_at, below, item_at, AllFrom, IsNode, level_of, IsTower, times_among}
 use Rattle.maple_node.proofs.Lists.{ends_above}
 use Rattle.maple_node.proofs.Frames.{times-first}
 
@@ -18,7 +18,7 @@ pub item_at-later : (page : ℕ) (x : NodeItem) (xs : List NodeItem) → x.end �
 item_at-later page x xs past = let test : nat_lt page x.end ≡ false = grind (arith, nat_tests) in rw test refl
 
 -- items that end above a page have it, whatever follows
-item_at-left : (start page : ℕ) (xs ys : List NodeItem) → 1 ≤ length xs → page < end_of start xs → item_at page (xs ++ ys) ≡ item_at page xs
+item_at-left : (start page : ℕ) (xs ys : List NodeItem) → 1 ≤ length xs → page < items_end start xs → item_at page (xs ++ ys) ≡ item_at page xs
 item_at-left start page [] ys some within = absurd (omega arith)
 item_at-left start page (x ∷ []) ys some within = item_at-first page x ys within ∙ sym (item_at-first page x [] within)
 item_at-left start page (x ∷ x' ∷ xs) ys some within = elim (cases_lt page x.end) [
@@ -28,7 +28,7 @@ item_at-left start page (x ∷ x' ∷ xs) ys some within = elim (cases_lt page x
 ]
 
 -- items that ascend and end at or below a page do not have it
-item_at-right : (start page : ℕ) (xs ys : List NodeItem) → Ascends start xs → end_of start xs ≤ page → item_at page (xs ++ ys) ≡ item_at page ys
+item_at-right : (start page : ℕ) (xs ys : List NodeItem) → Ascends start xs → items_end start xs ≤ page → item_at page (xs ++ ys) ≡ item_at page ys
 item_at-right start page [] ys ascends past = refl
 item_at-right start page (x ∷ xs) ys ascends past =
     let above = ends_above x.end xs ascends.1 in
@@ -36,12 +36,12 @@ item_at-right start page (x ∷ xs) ys ascends past =
 
 -- what has a page below nodes is what has it in the node that has it
 pub item_at-below : (at : ℕ → List ℕ) (leaf : Bool) (limit start page : ℕ) (items : List NodeItem) → AllFrom (IsNode at leaf limit) start items
-    → item_at page (below at leaf items) ≡ option_and_then (λ item. item_at page (read at leaf item.word)) (item_at page items)
+    → item_at page (below at leaf items) ≡ option_and_then (λ item. item_at page (items_at at leaf item.word)) (item_at page items)
 item_at-below at leaf limit start page [] nodes = refl
 item_at-below at leaf limit start page (x ∷ xs) nodes =
-    let here = read at leaf x.word in
+    let here = items_at at leaf x.word in
     let node = nodes.0 in
-    let found : Option NodeItem → Option NodeItem = option_and_then (λ (item : NodeItem). item_at page (read at leaf item.word)) in
+    let found : Option NodeItem → Option NodeItem = option_and_then (λ (item : NodeItem). item_at page (items_at at leaf item.word)) in
     elim (cases_lt page x.end) as (λ _. item_at page (here ++ below at leaf xs) ≡ found (item_at page (x ∷ xs))) [
       | inl within ↦ item_at-left start page here (below at leaf xs) node.some (subst (λ (end : ℕ). page < end) (sym node.until) within)
           ∙ sym (ap found (item_at-first page x xs within))
@@ -56,16 +56,16 @@ unfolding IsTower level_of
 item_at-none at limit zero page items tower none = none
 item_at-none at limit (suc up) page items tower none =
     let leaf = is_leaf (0 + up) in
-    let found : Option NodeItem → Option NodeItem = option_and_then (λ (item : NodeItem). item_at page (read at leaf item.word)) in
+    let found : Option NodeItem → Option NodeItem = option_and_then (λ (item : NodeItem). item_at page (items_at at leaf item.word)) in
     item_at-none at limit up page (below at leaf items) tower.1 (item_at-below at leaf limit 0 page items tower.0 ∙ ap found none)
 
 -- the item that has a page is one of them
-pub item_at-among : (page : ℕ) (xs : List NodeItem) (item : NodeItem) → item_at page xs ≡ Some item → 1 ≤ times item.word (map (λ item. item.word) xs)
+pub item_at-among : (page : ℕ) (xs : List NodeItem) (item : NodeItem) → item_at page xs ≡ Some item → 1 ≤ times_among item.word (map (λ item. item.word) xs)
 item_at-among page [] item is = absurd (cc)
 item_at-among page (x ∷ xs) item is = elim (cases_lt page x.end) [
   | inl within ↦ let same = sym (item_at-first page x xs within) ∙ is in
       let e : x ≡ item = cc in
-      subst (λ (i : NodeItem). 1 ≤ times i.word (x.word ∷ map (λ item. item.word) xs)) e (times-first x.word (map (λ item. item.word) xs))
+      subst (λ (i : NodeItem). 1 ≤ times_among i.word (x.word ∷ map (λ item. item.word) xs)) e (times-first x.word (map (λ item. item.word) xs))
   | inr past ↦ let more = item_at-among page xs item (sym (item_at-later page x xs past) ∙ is) in omega arith
 ]
 

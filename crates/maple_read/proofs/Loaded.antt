@@ -8,14 +8,14 @@ use Rattle.grace_core.specs.Core.{has_row}
 use Rattle.maple_node.specs.declared.item.NodeItem.{NodeItem}
 use Rattle.maple_node.specs.declared.root.Root.{Root}
 use Rattle.maple_node.specs.Nodes.{Ascends}
-use Rattle.maple_node.specs.Levels.{at_of, read, item_at, IsTower}
+use Rattle.maple_node.specs.Levels.{at_of, items_at, item_at, IsTower}
 use Rattle.maple_node.specs.Trees.{tree_of, entries_of, tree_rows, IsFirst, IsLayout}
 use Rattle.maple_node.proofs.Trees.{first-entries, entries-ascend}
 use Rattle.node_slots.specs.declared.view.ShownTree.{ShownTree}
 use Rattle.node_slots.specs.declared.view.NodeView.{NodeView}
 use Rattle.node_slots.specs.Trees.{shown_rows, grace_tree, IsShown}
 use Rattle.node_slots.proofs.Writers.{times_same}
-use Rattle.maple_read.specs.Walks.{HasLoaded, HasNode, slot_at}
+use Rattle.maple_read.specs.Walks.{HasLoaded, HasNode, shown_slot}
 use Rattle.maple_read.proofs.Items.{item_at-first, item_at-later}
 use Rattle.maple_read.proofs.Descent.{Reached, at_root, to_child, no_child, at_leaf, top-long}
 use Rattle.maple_read.proofs.Pairs.{slot_in, slot_from-entry}
@@ -115,11 +115,11 @@ made-none f (Some x) is = absurd (cc)
 
 -- it goes on at the child that has the page
 pub goes_on : (shown : ShownTree) (page up next row word row' : ℕ) → IsAt shown page up row → next + 1 ≡ up
-    → option_map (λ item. item.word) (item_at page (read (at_of shown.words) false row)) ≡ Some word → row' ≡ word → IsAt shown page next row'
+    → option_map (λ item. item.word) (item_at page (items_at (at_of shown.words) false row)) ≡ Some word → row' ≡ word → IsAt shown page next row'
 goes_on shown page up next row word row' at level found same =
     let words = at_of shown.words in
     let tree = tree_of words shown.root in
-    let child = made (λ (item : NodeItem). item.word) (item_at page (read words false row)) word found in
+    let child = made (λ (item : NodeItem). item.word) (item_at page (items_at words false row)) word found in
     let levels : up ≡ suc next = omega arith in
     let from : IsAt shown page (suc next) row = subst (λ n. IsAt shown page n row) levels at in
     let down : IsAt shown page next child.one.word = to_child words tree.top.end (entries_in shown) (tree_rows words tree) page next row child.one from child.is in
@@ -127,21 +127,21 @@ goes_on shown page up next row word row' at level found same =
 
 -- the slot of a tree is the one that the entry's word tells
 pub slot-entry : (view : NodeView) (root : Root) (page : ℕ) → HasLoaded view root → (shown : ShownTree) → view.snapshot ≡ Some shown
-    → slot_at page shown ≡ option_and_then (λ item. slot_in item.word) (item_at page (entries_in shown))
+    → shown_slot page shown ≡ option_and_then (λ item. slot_in item.word) (item_at page (entries_in shown))
 slot-entry view root page loaded shown shows =
     let one : loaded.shown ≡ shown = one_shown view loaded.shown shown loaded.snapshot shows in
     let is = is_loaded view.size.slots loaded.shown loaded.layout in
-    subst (λ (s : ShownTree). slot_at page s ≡ option_and_then (λ (item : NodeItem). slot_in item.word) (item_at page (entries_in s))) one
+    subst (λ (s : ShownTree). shown_slot page s ≡ option_and_then (λ (item : NodeItem). slot_in item.word) (item_at page (entries_in s))) one
     (slot_from-entry page 0 (entries_in loaded.shown) is.ascends (omega arith))
 
 -- no pair has the page where no child has it
 pub none_inner : (view : NodeView) (root : Root) (page up next row : ℕ) → HasLoaded view root → (shown : ShownTree) → view.snapshot ≡ Some shown
     → IsAt shown page up row → next + 1 ≡ up
-    → option_map (λ item. item.word) (item_at page (read (at_of shown.words) false row)) ≡ None → slot_at page shown ≡ None
+    → option_map (λ item. item.word) (item_at page (items_at (at_of shown.words) false row)) ≡ None → shown_slot page shown ≡ None
 none_inner view root page up next row loaded shown shows at level found =
     let words = at_of shown.words in
     let tree = tree_of words shown.root in
-    let none = made-none (λ (item : NodeItem). item.word) (item_at page (read words false row)) found in
+    let none = made-none (λ (item : NodeItem). item.word) (item_at page (items_at words false row)) found in
     let levels : up ≡ suc next = omega arith in
     let from : IsAt shown page (suc next) row = subst (λ n. IsAt shown page n row) levels at in
     let past : item_at page (entries_in shown) ≡ None = no_child words tree.top.end (entries_in shown) (tree_rows words tree) page next row from none in
@@ -149,7 +149,7 @@ none_inner view root page up next row loaded shown shows at level found =
 
 -- the word of the entry that has the page
 pub entry_word : (shown : ShownTree) (page up row : ℕ) (word : Option ℕ) → IsAt shown page up row → up ≡ 0
-    → option_map (λ item. item.word) (item_at page (read (at_of shown.words) true row)) ≡ word
+    → option_map (λ item. item.word) (item_at page (items_at (at_of shown.words) true row)) ≡ word
     → option_map (λ item. item.word) (item_at page (entries_in shown)) ≡ word
 entry_word shown page up row word at level found =
     let words = at_of shown.words in
@@ -165,8 +165,8 @@ by_word (Some item) = refl
 -- the slot that it tells is that of the tree
 pub slot_told : (view : NodeView) (root : Root) (page up row : ℕ) (word : Option ℕ) → HasLoaded view root → (shown : ShownTree)
     → view.snapshot ≡ Some shown → IsAt shown page up row → up ≡ 0
-    → option_map (λ item. item.word) (item_at page (read (at_of shown.words) true row)) ≡ word
-    → slot_at page shown ≡ option_and_then slot_in word
+    → option_map (λ item. item.word) (item_at page (items_at (at_of shown.words) true row)) ≡ word
+    → shown_slot page shown ≡ option_and_then slot_in word
 slot_told view root page up row word loaded shown shows at level found =
     slot-entry view root page loaded shown shows ∙ by_word (item_at page (entries_in shown))
     ∙ ap (option_and_then slot_in) (entry_word shown page up row word at level found)
@@ -185,7 +185,7 @@ of_found P page (x ∷ xs) item all is = elim (cases_lt page x.end) as (λ _. P 
 pub slot_fits : (view : NodeView) (root : Root) (page up row word : ℕ) → HasLoaded view root
     → ((shown : ShownTree) → view.snapshot ≡ Some shown → IsAt shown page up row) → up ≡ 0
     → ((shown : ShownTree) → view.snapshot ≡ Some shown
-    → option_map (λ item. item.word) (item_at page (read (at_of shown.words) true row)) ≡ Some word)
+    → option_map (λ item. item.word) (item_at page (items_at (at_of shown.words) true row)) ≡ Some word)
     → word ≤ view.size.slots
 slot_fits view root page up row word loaded at level found =
     let shown = loaded.shown in
@@ -199,7 +199,7 @@ slot_fits view root page up row word loaded at level found =
 pub row_fits : (view : NodeView) (root : Root) (page up next row word : ℕ) → HasLoaded view root
     → ((shown : ShownTree) → view.snapshot ≡ Some shown → IsAt shown page up row) → next + 1 ≡ up
     → ((shown : ShownTree) → view.snapshot ≡ Some shown
-    → option_map (λ item. item.word) (item_at page (read (at_of shown.words) false row)) ≡ Some word)
+    → option_map (λ item. item.word) (item_at page (items_at (at_of shown.words) false row)) ≡ Some word)
     → word < view.size.rows
 row_fits view root page up next row word loaded at level found =
     let shown = loaded.shown in
@@ -227,7 +227,7 @@ walks-node old now root page depth row loaded walks =
 -- what was found in a node
 abbrev pub Finds : NodeView → Bool → ℕ → ℕ → Option ℕ → Type 0
 Finds now leaf page row word = (shown : ShownTree) → now.snapshot ≡ Some shown
-    → option_map (λ item. item.word) (item_at page (read (at_of shown.words) leaf row)) ≡ word
+    → option_map (λ item. item.word) (item_at page (items_at (at_of shown.words) leaf row)) ≡ word
 
 -- the same, in the snapshot of before
 found_before : (old now : NodeView) (root : Root) (page depth row : ℕ) (leaf : Bool) (word : Option ℕ) → Walks old now root page depth row
@@ -263,7 +263,7 @@ entry_fits old now root page depth row word loaded walks last finds =
 
 -- how `walk` ends
 pub record Ends (old new : NodeView) (page : ℕ) (answer : Option ℕ) : Type 0 where
-  pub slot : (shown : ShownTree) → old.snapshot ≡ Some shown → answer ≡ slot_at page shown
+  pub slot : (shown : ShownTree) → old.snapshot ≡ Some shown → answer ≡ shown_slot page shown
   pub view : (reads : ℕ) × (reads ≤ 105) × (new ≡ read_at old reads)
 
 -- the tree has at most nine levels

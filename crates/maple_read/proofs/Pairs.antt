@@ -9,19 +9,19 @@ use Rattle.maple_node.specs.declared.item.NodeItem.{NodeItem}
 use Rattle.maple_node.specs.Nodes.{Ascends}
 use Rattle.maple_node.specs.Levels.{item_at}
 use Rattle.maple_node.specs.Trees.{Pair, pairs_from}
-use Rattle.maple_node.specs.Pairs.{has_page}
+use Rattle.maple_node.specs.Pairs.{pair_has_page}
 use Rattle.maple_read.proofs.Items.{item_at-first, item_at-later}
 
 -- a pair that begins above a page, or ends at it or below, does not have it
-lacks_below : (page : ℕ) (pair : Pair) → page < pair.lo → has_page page pair ≡ false
+lacks_below : (page : ℕ) (pair : Pair) → page < pair.lo → pair_has_page page pair ≡ false
 lacks_below page pair below = let test : nat_le pair.lo page ≡ false = grind (arith, nat_tests) in rw test refl
 
-lacks_above : (page : ℕ) (pair : Pair) → pair.hi ≤ page → has_page page pair ≡ false
+lacks_above : (page : ℕ) (pair : Pair) → pair.hi ≤ page → pair_has_page page pair ≡ false
 lacks_above page pair past = let test : nat_lt page pair.hi ≡ false = grind (arith, nat_tests) in
     elim (nat_le pair.lo page) as (λ b. b && nat_lt page pair.hi ≡ false) [ true ↦ test | false ↦ refl ]
 
 -- and one that begins at it or below, and ends above it, has it
-has : (page : ℕ) (pair : Pair) → pair.lo ≤ page → page < pair.hi → has_page page pair ≡ true
+has : (page : ℕ) (pair : Pair) → pair.lo ≤ page → page < pair.hi → pair_has_page page pair ≡ true
 has page pair above within =
     let low : nat_le pair.lo page ≡ true = grind (arith, nat_tests) in
     let high : nat_lt page pair.hi ≡ true = grind (arith, nat_tests) in
@@ -39,23 +39,23 @@ slot_in-slot word number some is = let test : nat_eq word 0 ≡ false = grind (a
 
 -- the slot of the pair that has a page
 abbrev slot_from : ℕ → ℕ → List NodeItem → Option ℕ
-slot_from page start items = option_map (λ (pair : Pair). pair.slot) (find (has_page page) (pairs_from start items))
+slot_from page start items = option_map (λ (pair : Pair). pair.slot) (find (pair_has_page page) (pairs_from start items))
 
 -- the first entry's pair is passed over where it does not have the page
 passed : (page start : ℕ) (x : NodeItem) (xs : List NodeItem)
-    → ((pair : Pair) → pair ≡ record { lo = start; hi = x.end; slot = x.word - 1 } → has_page page pair ≡ false)
-    → find (has_page page) (pairs_from start (x ∷ xs)) ≡ find (has_page page) (pairs_from x.end xs)
+    → ((pair : Pair) → pair ≡ record { lo = start; hi = x.end; slot = x.word - 1 } → pair_has_page page pair ≡ false)
+    → find (pair_has_page page) (pairs_from start (x ∷ xs)) ≡ find (pair_has_page page) (pairs_from x.end xs)
 passed page start x xs lacks =
     let pair : Pair = record { lo = start; hi = x.end; slot = x.word - 1 } in
     let rest = pairs_from x.end xs in
-    let test : has_page page pair ≡ false = lacks pair refl in
-    elim (nat_eq x.word 0) as (λ b. find (has_page page) (cond b [] (pair ∷ []) ++ rest) ≡ find (has_page page) rest) [
+    let test : pair_has_page page pair ≡ false = lacks pair refl in
+    elim (nat_eq x.word 0) as (λ b. find (pair_has_page page) (cond b [] (pair ∷ []) ++ rest) ≡ find (pair_has_page page) rest) [
       | true ↦ refl
-      | false ↦ ap (λ (b : Bool). cond b (Some pair) (find (has_page page) rest)) test
+      | false ↦ ap (λ (b : Bool). cond b (Some pair) (find (pair_has_page page) rest)) test
     ]
 
 -- entries that begin above a page have no pair that has it
-none_before : (page start : ℕ) (xs : List NodeItem) → Ascends start xs → page < start → find (has_page page) (pairs_from start xs) ≡ None
+none_before : (page start : ℕ) (xs : List NodeItem) → Ascends start xs → page < start → find (pair_has_page page) (pairs_from start xs) ≡ None
 none_before page start [] ascends below = refl
 none_before page start (x ∷ xs) ascends below =
     passed page start x xs (λ pair is. lacks_below page pair (subst (λ (p : Pair). page < p.lo) (sym is) below))
@@ -72,12 +72,12 @@ slot_from-entry page start (x ∷ xs) ascends above =
     let slot : Option Pair → Option ℕ = option_map (λ (pair : Pair). pair.slot) in
     elim (cases_lt page x.end) as (λ _. slot_from page start (x ∷ xs) ≡ told (item_at page (x ∷ xs))) [
       | inl within ↦
-          let test : has_page page pair ≡ true = has page pair above within in
-          let none : find (has_page page) rest ≡ None = none_before page x.end xs ascends.1 within in
-          let both : (b : Bool) → slot (find (has_page page) (cond b [] (pair ∷ []) ++ rest)) ≡ cond b None (Some (x.word - 1)) =
-          λ b. elim b as (λ b. slot (find (has_page page) (cond b [] (pair ∷ []) ++ rest)) ≡ cond b None (Some (x.word - 1))) [
+          let test : pair_has_page page pair ≡ true = has page pair above within in
+          let none : find (pair_has_page page) rest ≡ None = none_before page x.end xs ascends.1 within in
+          let both : (b : Bool) → slot (find (pair_has_page page) (cond b [] (pair ∷ []) ++ rest)) ≡ cond b None (Some (x.word - 1)) =
+          λ b. elim b as (λ b. slot (find (pair_has_page page) (cond b [] (pair ∷ []) ++ rest)) ≡ cond b None (Some (x.word - 1))) [
             | true ↦ ap slot none
-            | false ↦ ap (λ (c : Bool). slot (cond c (Some pair) (find (has_page page) rest))) test
+            | false ↦ ap (λ (c : Bool). slot (cond c (Some pair) (find (pair_has_page page) rest))) test
           ] in
           both (nat_eq x.word 0) ∙ sym (ap told (item_at-first page x xs within))
       | inr past ↦

@@ -4,14 +4,14 @@ use Rattle.std.proofs.lemmas.Bool.Decides.{nat_tests}
 use Rattle.std.specs.Prelude.{nat_eq}
 use Rattle.std.specs.Option.{option_map}
 use Rattle.maple_node.specs.declared.item.NodeItem.{NodeItem}
-use Rattle.maple_node.specs.Nodes.{items_of, leaf_items, inner_items}
+use Rattle.maple_node.specs.Nodes.{node_items, leaf_items, inner_items}
 use Rattle.maple_node.specs.Levels.{item_at}
 use Rattle.maple_node.specs.Codec.{width_of}
 use Rattle.maple_read.proofs.Items.{item_at-first, item_at-later}
 
 -- the word of the item that has a page
 abbrev pub word_in : Bool → ℕ → List ℕ → Option ℕ
-word_in leaf page words = option_map (λ (item : NodeItem). item.word) (item_at page (items_of leaf words))
+word_in leaf page words = option_map (λ (item : NodeItem). item.word) (item_at page (node_items leaf words))
 
 -- no item where too few words are left
 pub short : (leaf : Bool) (page : ℕ) (words : List ℕ) → length words < width_of leaf → word_in leaf page words ≡ None

@@ -11,8 +11,8 @@ use Rattle.node_slots.specs.Trees.{grace_tree, IsShown}
 use Rattle.node_slots.specs.Plays.{RowsExist}
 
 -- the slot that a tree pairs with a page, where one of its pairs has it
-abbrev pub slot_at : ℕ → ShownTree → Option ℕ
-slot_at page shown = paired.slot_at page (pairs_of (at_of shown.words) (tree_of (at_of shown.words) shown.root))
+abbrev pub shown_slot : ℕ → ShownTree → Option ℕ
+shown_slot page shown = paired.paired_slot page (pairs_of (at_of shown.words) (tree_of (at_of shown.words) shown.root))
 
 -- the reader's snapshot is the tree of this root, which meets the layout, and whose rows exist
 pub record HasLoaded (view : NodeView) (root : Root) : Type 0 where

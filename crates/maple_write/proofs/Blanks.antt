@@ -8,10 +8,10 @@ use Rattle.node_slots.specs.declared.view.Size.{Size}
 use Rattle.node_slots.specs.declared.view.NodeView.{NodeView}
 use Rattle.node_slots.specs.declared.seats.NodeWriter.{NodeWriter}
 use Rattle.node_slots.specs.Trees.{empty_row}
-use Rattle.node_slots.specs.Views.{opened_view}
+use Rattle.node_slots.specs.Views.{opened_node_view}
 use Rattle.node_slots.specs.Kept.{times_gone}
 use Rattle.node_slots.specs.Opening.{IsFreeFrom}
-use Rattle.node_slots.specs.Seats.{sight, row_count, free_of, left_of, is_kept}
+use Rattle.node_slots.specs.Seats.{node_sight, row_count, free_of, retired_rows, is_kept}
 use Rattle.node_slots.specs.Built.{IsBlank}
 use Rattle.node_slots.proofs.Listing.{kept_from}
 use Rattle.node_slots.proofs.Writers.{writer_kept}
@@ -22,13 +22,13 @@ first_row zero some = absurd (omega arith)
 first_row (suc n) some = refl
 
 -- only row 0 is neither free nor left
-only_first : (writer : NodeWriter) (size : Size) (readers row : ℕ) → sight writer ≡ opened_view size readers → IsFreeFrom 1 size.rows (free_of writer)
-    → left_of writer ≡ [] → is_kept writer row ≡ nat_eq row 0
+only_first : (writer : NodeWriter) (size : Size) (readers row : ℕ) → node_sight writer ≡ opened_node_view size readers → IsFreeFrom 1 size.rows (free_of writer)
+    → retired_rows writer ≡ [] → is_kept writer row ≡ nat_eq row 0
 only_first writer size readers row seen free left =
     let rows : row_count writer ≡ size.rows = ap (λ (v : NodeView). v.size.rows) seen in
     let table = ap (λ (s : Size). s.rows) writer.writer_state.kept.size_is in
     let some = writer.writer_state.table.sized.fits.some_rows in
-    let none_left : times row (left_of writer) ≡ 0 = ap (times row) left in
+    let none_left : times row (retired_rows writer) ≡ 0 = ap (times row) left in
     let Goal : Type 0 = is_kept writer row ≡ nat_eq row 0 in
     elim (cases_lt 0 row) as (λ _. Goal) [
       | inl above ↦
@@ -51,8 +51,8 @@ only_first writer size readers row seen free left =
           kept_from (row_count writer) row (times_gone writer.free.items writer.left.items row) (omega arith) (omega arith) ∙ sym test
     ]
 
-pub blank_new : (writer : NodeWriter) (tree : Tree) (size : Size) (readers : ℕ) → sight writer ≡ opened_view size readers
-    → IsFreeFrom 1 size.rows (free_of writer) → left_of writer ≡ [] → tree.root.0 ≡ 0 → tree.height ≡ 1 → 0 < tree.limit.0 → IsBlank writer tree
+pub blank_new : (writer : NodeWriter) (tree : Tree) (size : Size) (readers : ℕ) → node_sight writer ≡ opened_node_view size readers
+    → IsFreeFrom 1 size.rows (free_of writer) → retired_rows writer ≡ [] → tree.root.0 ≡ 0 → tree.height ≡ 1 → 0 < tree.limit.0 → IsBlank writer tree
 blank_new writer tree size readers seen free left root height some =
     let rows : row_count writer ≡ size.rows = ap (λ (v : NodeView). v.size.rows) seen in
     let table = ap (λ (s : Size). s.rows) writer.writer_state.kept.size_is in

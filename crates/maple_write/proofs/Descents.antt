@@ -2,8 +2,8 @@
 use Rattle.std.proofs.Common.{ℕ, zero, suc, ◌≡◌, ◌<◌, ◌≤◌, ◌+◌, ◌-◌, List, [], ◌∷◌, Some, refl, sym, ap, ◌∙◌, arith, inl, inr}
 use Rattle.std.proofs.lemmas.Bool.{cases_lt}
 use Rattle.maple_node.specs.declared.item.NodeItem.{NodeItem}
-use Rattle.maple_node.specs.Nodes.{end_of, Ascends}
-use Rattle.maple_node.specs.Levels.{at_of, item_at, level_of, rows_of, times, Agree}
+use Rattle.maple_node.specs.Nodes.{items_end, Ascends}
+use Rattle.maple_node.specs.Levels.{at_of, item_at, level_of, rows_below, times_among, Agree}
 use Rattle.maple_node.proofs.Levels.{level-ascends}
 use Rattle.maple_node.proofs.Frames.{level_of-agree}
 use Rattle.maple_node.specs.Splices.{ending_by}
@@ -12,7 +12,7 @@ use Rattle.maple_node.specs.declared.place.Place.{Place}
 use Rattle.maple_write.specs.declared.rows.Rooted.{Rooted}
 use Rattle.maple_write.specs.declared.descent.Descent.{Descent}
 use Rattle.maple_write.specs.declared.state.WriteState.{WriteState}
-use Rattle.maple_write.specs.Internal.Tables.{Table, rows_between, gone}
+use Rattle.maple_write.specs.Internal.Tables.{RowTable, rows_between, gone}
 use Rattle.maple_write.specs.Internal.Stores.{IsUpper, upper_rows, level_in, old_nodes, Partly, HasPage, IsDescent}
 use Rattle.maple_write.proofs.Levels.{tower_from}
 use Rattle.maple_write.proofs.Times.{times-lowest}
@@ -28,7 +28,7 @@ pub record Near (page later : ℕ) (items : List NodeItem) (item : NodeItem) : T
   pub same : ending_by later items ≡ ending_by page items
 
 pub near : (start page later : ℕ) (items : List NodeItem) (item : NodeItem) → Ascends start items → item_at page items ≡ Some item
-    → end_of start (ending_by page items) ≤ later → later < item.end → Near page later items item
+    → items_end start (ending_by page items) ≤ later → later < item.end → Near page later items item
 near start page later [] item ascends found begins ends = absurd (cc)
 near start page later (x ∷ xs) item ascends found begins ends = elim (cases_lt page x.end) as (λ _. Near page later (x ∷ xs) item) [
   | inl above ↦
@@ -43,8 +43,8 @@ near start page later (x ∷ xs) item ascends found begins ends = elim (cases_lt
   | inr past ↦
       let front = ending_by-first page x xs past in
       let high = end_ending_by x.end page xs ascends.1 in
-      let moved : end_of start (ending_by page (x ∷ xs)) ≡ end_of x.end (ending_by page xs) = ap (end_of start) front in
-      let after : end_of x.end (ending_by page xs) ≤ later = omega (arith, moved, begins) in
+      let moved : items_end start (ending_by page (x ∷ xs)) ≡ items_end x.end (ending_by page xs) = ap (items_end start) front in
+      let after : items_end x.end (ending_by page xs) ≤ later = omega (arith, moved, begins) in
       let over : x.end ≤ later = omega (arith, high, after) in
       let deep = near x.end page later xs item ascends.1 (sym (item_at-later page x xs past) ∙ found) after ends in
       record {
@@ -63,20 +63,20 @@ has_near at tree low level page later place tower order within there is begins e
     let ascends = level-ascends at tree.top.end level (tree.height - level) (tree.top ∷ []) (some, tt) here in
     let from = is.start in
     let same = near 0 page later items place.item ascends is.item (omega (arith, from, begins)) ends in
-    record { item = same.found; start = from ∙ sym (ap (end_of 0) same.same); above = begins }
+    record { item = same.found; start = from ∙ sym (ap (items_end 0) same.same); above = begins }
 
 -- the rows above a level are among those above a lower one
 rows_up : (at : ℕ → List ℕ) (row k low level up total : ℕ) (items : List NodeItem) → low + k ≡ level → k + up ≡ total
-    → times row (rows_of at level up items) ≤ times row (rows_of at low total items)
+    → times_among row (rows_below at level up items) ≤ times_among row (rows_below at low total items)
 rows_up at row zero low level up total items here all =
     let e : low ≡ level = omega arith in
     let e' : up ≡ total = omega arith in
-    let s = ap (λ (n : ℕ). times row (rows_of at n up items)) e in
-    let s' = ap (λ (n : ℕ). times row (rows_of at low n items)) e' in
+    let s = ap (λ (n : ℕ). times_among row (rows_below at n up items)) e in
+    let s' = ap (λ (n : ℕ). times_among row (rows_below at low n items)) e' in
     omega arith
 rows_up at row (suc k) low level up total items here all =
     let e : total ≡ suc (k + up) = omega arith in
-    let s = ap (λ (n : ℕ). times row (rows_of at low n items)) e in
+    let s = ap (λ (n : ℕ). times_among row (rows_below at low n items)) e in
     let one = times-lowest at row low (k + up) items in
     let deep = rows_up at row k (suc low) level up (k + up) items (omega arith) refl in
     omega arith
@@ -95,14 +95,14 @@ descent_kept at after low descent agree is = record {
       in
       record {
         item = ap (item_at descent.page) same ∙ old.item;
-        start = old.start ∙ sym (ap (λ (xs : List NodeItem). end_of 0 (ending_by descent.page xs)) same);
+        start = old.start ∙ sym (ap (λ (xs : List NodeItem). items_end 0 (ending_by descent.page xs)) same);
         above = old.above;
       };
 }
 
-pub descent_above : (old : Table) (after : ℕ → List ℕ) (state : WriteState) (end : ℕ) → Partly old (level_in state)
+pub descent_above : (old : RowTable) (after : ℕ → List ℕ) (state : WriteState) (end : ℕ) → Partly old (level_in state)
     → state.level < state.descent.now.tree.height → state.lo ≤ end
-    → ((row : ℕ) → gone old row + times row (rows_between state.lo end (old_nodes old (level_in state))) ≡ 0 → after row ≡ at_of old.rows row)
+    → ((row : ℕ) → gone old row + times_among row (rows_between state.lo end (old_nodes old (level_in state))) ≡ 0 → after row ≡ at_of old.rows row)
     → IsDescent (at_of old.rows) (state.level + 1) state.descent.now → IsDescent after (state.level + 1 + 1) state.descent.now
 descent_above old after state end partly less order kept is =
     descent_high after (state.level + 1) (state.level + 1 + 1) state.descent.now (omega arith)

@@ -5,8 +5,8 @@ use Rattle.std.proofs.lemmas.List.{get_or_past}
 use Rattle.std.proofs.lemmas.List.Elements.{filter-append}
 use Rattle.std.specs.Prelude.{nat_lt, nat_le}
 use Rattle.maple_node.specs.declared.item.NodeItem.{NodeItem}
-use Rattle.maple_node.specs.Nodes.{items_of, leaf_items, inner_items, end_of}
-use Rattle.maple_node.specs.Levels.{is_leaf, at_of, read, below, item_at, AllFrom, IsNode, level_of, IsTower}
+use Rattle.maple_node.specs.Nodes.{node_items, leaf_items, inner_items, items_end}
+use Rattle.maple_node.specs.Levels.{is_leaf, at_of, items_at, below, item_at, AllFrom, IsNode, level_of, IsTower}
 use Rattle.maple_node.proofs.Lists.{end_of-append}
 use Rattle.maple_node.proofs.Levels.{nodes-ascend, end_of-below, below-ascends}
 use Rattle.maple_node.specs.Splices.{ending_by, ending_after}
@@ -33,27 +33,27 @@ found_later page x item xs past found = sym (item_at-later page x xs past) ∙ f
 -- what ends up to a page in the level below
 pub ending_by-below : (at : ℕ → List ℕ) (leaf : Bool) (limit start page : ℕ) (items : List NodeItem) (left : NodeItem) → AreNodes at leaf limit start items
     → item_at page items ≡ Some left
-    → ending_by page (below at leaf items) ≡ below at leaf (ending_by page items) ++ ending_by page (read at leaf left.word)
+    → ending_by page (below at leaf items) ≡ below at leaf (ending_by page items) ++ ending_by page (items_at at leaf left.word)
 ending_by-below at leaf limit start page [] left nodes found = absurd (cc)
 ending_by-below at leaf limit start page (x ∷ xs) left nodes found =
     let deep = below at leaf xs in
-    let Goal : Type 0 = ending_by page (read at leaf x.word ++ deep) ≡ below at leaf (ending_by page (x ∷ xs)) ++ ending_by page (read at leaf left.word) in
+    let Goal : Type 0 = ending_by page (items_at at leaf x.word ++ deep) ≡ below at leaf (ending_by page (x ∷ xs)) ++ ending_by page (items_at at leaf left.word) in
     elim (cases_lt page x.end) as (λ _. Goal) [
       | inl above ↦
           let same = found_first page x left xs above found in
           let none : ending_by page deep ≡ [] = ending_by_none x.end page deep (below-ascends at leaf limit x.end xs nodes.1) (omega arith) in
           let first : ending_by page (x ∷ xs) ≡ [] = ending_by_first start page x xs (nodes-ascend at leaf limit start (x ∷ xs) nodes) above in
-          ending_by-append page (read at leaf x.word) deep ∙ ap (λ (ys : List NodeItem). ending_by page (read at leaf x.word) ++ ys) none
-          ∙ whole (ending_by page (read at leaf x.word)) ∙ ap (λ (y : NodeItem). ending_by page (read at leaf y.word)) same
-          ∙ sym (ap (λ (ys : List NodeItem). below at leaf ys ++ ending_by page (read at leaf left.word)) first)
+          ending_by-append page (items_at at leaf x.word) deep ∙ ap (λ (ys : List NodeItem). ending_by page (items_at at leaf x.word) ++ ys) none
+          ∙ whole (ending_by page (items_at at leaf x.word)) ∙ ap (λ (y : NodeItem). ending_by page (items_at at leaf y.word)) same
+          ∙ sym (ap (λ (ys : List NodeItem). below at leaf ys ++ ending_by page (items_at at leaf left.word)) first)
       | inr past ↦
-          let all : ending_by page (read at leaf x.word) ≡ read at leaf x.word =
-          ending_by_all start page (read at leaf x.word) nodes.0.ascends (let until = nodes.0.until in omega arith) in
+          let all : ending_by page (items_at at leaf x.word) ≡ items_at at leaf x.word =
+          ending_by_all start page (items_at at leaf x.word) nodes.0.ascends (let until = nodes.0.until in omega arith) in
           let rest = ending_by-below at leaf limit x.end page xs left nodes.1 (found_later page x left xs past found) in
-          ending_by-append page (read at leaf x.word) deep
-          ∙ ap (λ (ys : List NodeItem). ys ++ ending_by page deep) all ∙ ap (λ (ys : List NodeItem). read at leaf x.word ++ ys) rest
-          ∙ sym (append_assoc (read at leaf x.word) (below at leaf (ending_by page xs)) (ending_by page (read at leaf left.word)))
-          ∙ sym (ap (λ (ys : List NodeItem). below at leaf ys ++ ending_by page (read at leaf left.word)) (ending_by-first page x xs past))
+          ending_by-append page (items_at at leaf x.word) deep
+          ∙ ap (λ (ys : List NodeItem). ys ++ ending_by page deep) all ∙ ap (λ (ys : List NodeItem). items_at at leaf x.word ++ ys) rest
+          ∙ sym (append_assoc (items_at at leaf x.word) (below at leaf (ending_by page xs)) (ending_by page (items_at at leaf left.word)))
+          ∙ sym (ap (λ (ys : List NodeItem). below at leaf ys ++ ending_by page (items_at at leaf left.word)) (ending_by-first page x xs past))
     ] where
       whole : (ys : List NodeItem) → ys ++ [] ≡ ys
       whole [] = refl
@@ -62,13 +62,13 @@ ending_by-below at leaf limit start page (x ∷ xs) left nodes found =
 -- what ends above a page in the level below, where the page before is in a node
 pub ending_after-below : (at : ℕ → List ℕ) (leaf : Bool) (limit start page last : ℕ) (items : List NodeItem) (right : NodeItem) → AreNodes at leaf limit start items
     → last + 1 ≡ page → item_at last items ≡ Some right
-    → ending_after page (below at leaf items) ≡ ending_after page (read at leaf right.word) ++ below at leaf (ending_after right.end items)
+    → ending_after page (below at leaf items) ≡ ending_after page (items_at at leaf right.word) ++ below at leaf (ending_after right.end items)
 ending_after-below at leaf limit start page last [] right nodes next found = absurd (cc)
 ending_after-below at leaf limit start page last (x ∷ xs) right nodes next found =
     let deep = below at leaf xs in
-    let here = read at leaf x.word in
+    let here = items_at at leaf x.word in
     let ascends = nodes-ascend at leaf limit start (x ∷ xs) nodes in
-    let Goal : Type 0 = ending_after page (here ++ deep) ≡ ending_after page (read at leaf right.word) ++ below at leaf (ending_after right.end (x ∷ xs)) in
+    let Goal : Type 0 = ending_after page (here ++ deep) ≡ ending_after page (items_at at leaf right.word) ++ below at leaf (ending_after right.end (x ∷ xs)) in
     elim (cases_lt last x.end) as (λ _. Goal) [
       | inl above ↦
           let same = found_first last x right xs above found in
@@ -76,7 +76,7 @@ ending_after-below at leaf limit start page last (x ∷ xs) right nodes next fou
           let rest : ending_after x.end (x ∷ xs) ≡ xs = ending_after-later x.end x xs (omega arith) ∙ ending_after_all x.end x.end xs ascends.1 (omega arith) in
           ending_after-append page here deep ∙ ap (λ (ys : List NodeItem). ending_after page here ++ ys) all
           ∙ sym (ap (λ (ys : List NodeItem). ending_after page here ++ below at leaf ys) rest)
-          ∙ ap (λ (y : NodeItem). ending_after page (read at leaf y.word) ++ below at leaf (ending_after y.end (x ∷ xs))) same
+          ∙ ap (λ (y : NodeItem). ending_after page (items_at at leaf y.word) ++ below at leaf (ending_after y.end (x ∷ xs))) same
       | inr past ↦
           let until = nodes.0.until in
           let none : ending_after page here ≡ [] = ending_after_none start page here nodes.0.ascends (omega arith) in
@@ -84,22 +84,22 @@ ending_after-below at leaf limit start page last (x ∷ xs) right nodes next fou
           let high = (stands x.end last xs right ascends.1 later).above in
           ending_after-append page here deep ∙ ap (λ (ys : List NodeItem). ys ++ ending_after page deep) none
           ∙ ending_after-below at leaf limit x.end page last xs right nodes.1 next later
-          ∙ sym (ap (λ (ys : List NodeItem). ending_after page (read at leaf right.word) ++ below at leaf ys) (ending_after-later right.end x xs (omega arith)))
+          ∙ sym (ap (λ (ys : List NodeItem). ending_after page (items_at at leaf right.word) ++ below at leaf ys) (ending_after-later right.end x xs (omega arith)))
     ]
 
 -- the item that has a page in the level below is the one in the node that has it
 pub item_at-below : (at : ℕ → List ℕ) (leaf : Bool) (limit start page : ℕ) (items : List NodeItem) (item : NodeItem) → AreNodes at leaf limit start items
-    → start ≤ page → item_at page items ≡ Some item → item_at page (read at leaf item.word) ≡ item_at page (below at leaf items)
+    → start ≤ page → item_at page items ≡ Some item → item_at page (items_at at leaf item.word) ≡ item_at page (below at leaf items)
 item_at-below at leaf limit start page [] item nodes begins found = absurd (cc)
 item_at-below at leaf limit start page (x ∷ xs) item nodes begins found =
-    let here = read at leaf x.word in
+    let here = items_at at leaf x.word in
     let deep = below at leaf xs in
     let until = nodes.0.until in
-    let Goal : Type 0 = item_at page (read at leaf item.word) ≡ item_at page (here ++ deep) in
+    let Goal : Type 0 = item_at page (items_at at leaf item.word) ≡ item_at page (here ++ deep) in
     elim (cases_lt page x.end) as (λ _. Goal) [
       | inl above ↦
           let same = found_first page x item xs above found in
-          ap (λ (y : NodeItem). item_at page (read at leaf y.word)) (sym same) ∙ sym (item_at-left start page here deep begins (omega arith))
+          ap (λ (y : NodeItem). item_at page (items_at at leaf y.word)) (sym same) ∙ sym (item_at-left start page here deep begins (omega arith))
       | inr past ↦
           item_at-below at leaf limit x.end page xs item nodes.1 past (found_later page x item xs past found)
           ∙ sym (item_at-right start page here deep nodes.0.ascends (omega arith))
@@ -116,11 +116,11 @@ nodes-ending_by at leaf limit start page (x ∷ xs) nodes = elim (cases_lt page 
 
 -- what is so of the node that has a page, and of the item in it that has the page
 pub record Stepped (at : ℕ → List ℕ) (leaf : Bool) (limit start page : ℕ) (items : List NodeItem) (item : NodeItem) : Type 0 where
-  pub node : IsNode at leaf limit (end_of start (ending_by page items)) item
+  pub node : IsNode at leaf limit (items_end start (ending_by page items)) item
   pub within : page < item.end
-  pub begins : end_of start (ending_by page items) ≤ page
-  pub found : item_at page (below at leaf items) ≡ item_at page (read at leaf item.word)
-  pub front : end_of start (ending_by page (below at leaf items)) ≡ end_of (end_of start (ending_by page items)) (ending_by page (read at leaf item.word))
+  pub begins : items_end start (ending_by page items) ≤ page
+  pub found : item_at page (below at leaf items) ≡ item_at page (items_at at leaf item.word)
+  pub front : items_end start (ending_by page (below at leaf items)) ≡ items_end (items_end start (ending_by page items)) (ending_by page (items_at at leaf item.word))
 
 pub descend : (at : ℕ → List ℕ) (leaf : Bool) (limit start page : ℕ) (items : List NodeItem) (item : NodeItem) → AreNodes at leaf limit start items
     → start ≤ page → item_at page items ≡ Some item → Stepped at leaf limit start page items item
@@ -131,11 +131,11 @@ descend at leaf limit start page items item nodes begins found =
       within = (stands start page items item ascends found).above;
       begins = ending_by_below start page items begins;
       found = sym (item_at-below at leaf limit start page items item nodes begins found);
-      front = ap (end_of start) (ending_by-below at leaf limit start page items item nodes found)
-          ∙ end_of-append start (below at leaf (ending_by page items)) (ending_by page (read at leaf item.word))
-          ∙ ap (λ (p : ℕ). end_of p (ending_by page (read at leaf item.word))) (ends_ending_by nodes);
+      front = ap (items_end start) (ending_by-below at leaf limit start page items item nodes found)
+          ∙ end_of-append start (below at leaf (ending_by page items)) (ending_by page (items_at at leaf item.word))
+          ∙ ap (λ (p : ℕ). items_end p (ending_by page (items_at at leaf item.word))) (ends_ending_by nodes);
     } where
-      ends_ending_by : AreNodes at leaf limit start items → end_of start (below at leaf (ending_by page items)) ≡ end_of start (ending_by page items)
+      ends_ending_by : AreNodes at leaf limit start items → items_end start (below at leaf (ending_by page items)) ≡ items_end start (ending_by page items)
       ends_ending_by nodes = end_of-below at leaf limit start (ending_by page items) (nodes-ending_by at leaf limit start page items nodes)
 
 -- a level is the one below the next one up
@@ -187,7 +187,7 @@ tower_from at limit height low level items above within tower =
     tower_up at limit (level - low) low level (height - level) (height - low) items (omega arith) (omega arith) tower
 
 -- no words list no items
-no_items : (leaf : Bool) → items_of leaf [] ≡ []
+no_items : (leaf : Bool) → node_items leaf [] ≡ []
 unfolding leaf_items inner_items
 no_items true = refl
 no_items false = refl
@@ -198,7 +198,7 @@ pub row_there : (rows : List (List ℕ)) (leaf : Bool) (limit start : ℕ) (item
 row_there rows leaf limit start item node = elim (cases_lt item.word (length rows)) as (λ _. item.word < length rows) [
   | inl within ↦ within
   | inr past ↦
-      let none : read (at_of rows) leaf item.word ≡ [] = ap (items_of leaf) (get_or_past rows item.word [] past) ∙ no_items leaf in
+      let none : items_at (at_of rows) leaf item.word ≡ [] = ap (node_items leaf) (get_or_past rows item.word [] past) ∙ no_items leaf in
       let long = ap (λ (xs : List NodeItem). length xs) none in
       let some = node.some in
       absurd (omega arith)

@@ -3,8 +3,8 @@ use Rattle.std.proofs.Common.{ℕ, zero, suc, ◌≡◌, ◌≢◌, ◌<◌, ◌
 use Rattle.std.proofs.lemmas.Bool.{cases_lt}
 use Rattle.std.proofs.lemmas.List.{take-append-drop, length-take-le, length-drop, take_all}
 use Rattle.maple_node.specs.declared.item.NodeItem.{NodeItem}
-use Rattle.maple_node.specs.Nodes.{items_of, words_of, most, least, end_of, Ascends, gap_of, IsPlain}
-use Rattle.maple_node.specs.Levels.{at_of, read, below, IsNode, times, Agree}
+use Rattle.maple_node.specs.Nodes.{node_items, words_of_items, most, least_items, items_end, Ascends, gap_of, KeepsNoGap}
+use Rattle.maple_node.specs.Levels.{at_of, items_at, below, IsNode, times_among, Agree}
 use Rattle.maple_node.proofs.Lists.{end_of-append}
 use Rattle.maple_node.proofs.Places.{items_of_words}
 use Rattle.maple_node.proofs.ItemLists.{Ascends-left, Ascends-right, IsPlain-left, IsPlain-right}
@@ -13,7 +13,7 @@ use Rattle.maple_write.proofs.Levels.{AreNodes}
 use Rattle.maple_write.proofs.Times.{times-rows_in, times_same, apart, kept_other, written_row, below_pushed, pushed}
 
 -- where items end
-pub last_end : (start : ℕ) (items : List NodeItem) (d : NodeItem) → 1 ≤ length items → (get_or items (length items - 1) d).end ≡ end_of start items
+pub last_end : (start : ℕ) (items : List NodeItem) (d : NodeItem) → 1 ≤ length items → (get_or items (length items - 1) d).end ≡ items_end start items
 last_end start [] d some = absurd (omega arith)
 last_end start (x ∷ []) d some = let e : length (x ∷ []) - 1 ≡ 0 = omega arith in ap (λ (i : ℕ). (get_or (x ∷ []) i d).end) e
 last_end start (x ∷ y ∷ ys) d some =
@@ -22,24 +22,24 @@ last_end start (x ∷ y ∷ ys) d some =
 
 -- the node that was written
 pub made-items : (rows : List (List ℕ)) (row : ℕ) (leaf : Bool) (start : ℕ) (items : List NodeItem) → row < length rows → Ascends start items
-    → IsPlain leaf items → read (at_of (set rows row (words_of leaf items))) leaf row ≡ items
+    → KeepsNoGap leaf items → items_at (at_of (set rows row (words_of_items leaf items))) leaf row ≡ items
 made-items rows row leaf start items within ascends plain =
-    ap (items_of leaf) (written_row rows row (words_of leaf items) within) ∙ items_of_words leaf start items ascends plain
+    ap (node_items leaf) (written_row rows row (words_of_items leaf items) within) ∙ items_of_words leaf start items ascends plain
 
 pub made-node : (rows : List (List ℕ)) (row : ℕ) (leaf : Bool) (limit start until gap : ℕ) (items : List NodeItem) → row < length rows
-    → Ascends start items → IsPlain leaf items → 1 ≤ length items → length items ≤ most leaf
-    → (end_of start items < limit → least leaf ≤ length items) → until ≡ end_of start items → gap ≡ gap_of leaf start items
-    → IsNode (at_of (set rows row (words_of leaf items))) leaf limit start (record { end = until; word = row; gap = gap })
+    → Ascends start items → KeepsNoGap leaf items → 1 ≤ length items → length items ≤ most leaf
+    → (items_end start items < limit → least_items leaf ≤ length items) → until ≡ items_end start items → gap ≡ gap_of leaf start items
+    → IsNode (at_of (set rows row (words_of_items leaf items))) leaf limit start (record { end = until; word = row; gap = gap })
 made-node rows row leaf limit start until gap items within ascends plain some fits full ends gaps =
     let back = sym (made-items rows row leaf start items within ascends plain) in
     record {
       some = subst (λ (xs : List NodeItem). 1 ≤ length xs) back some;
       most = subst (λ (xs : List NodeItem). length xs ≤ most leaf) back fits;
-      least = λ inner. subst (λ (xs : List NodeItem). least leaf ≤ length xs) back (full (omega arith));
+      least = λ inner. subst (λ (xs : List NodeItem). least_items leaf ≤ length xs) back (full (omega arith));
       ascends = subst (λ (xs : List NodeItem). Ascends start xs) back ascends;
-      until = subst (λ (xs : List NodeItem). end_of start xs ≡ until) back (sym ends);
+      until = subst (λ (xs : List NodeItem). items_end start xs ≡ until) back (sym ends);
       gap = subst (λ (xs : List NodeItem). gap_of leaf start xs ≡ gap) back (sym gaps);
-      words = written_row rows row (words_of leaf items) within ∙ ap (words_of leaf) back;
+      words = written_row rows row (words_of_items leaf items) within ∙ ap (words_of_items leaf) back;
     }
 
 -- the items from one place up to another
@@ -55,13 +55,13 @@ take_split (suc place) count (x ∷ xs) = let e : suc place + count ≡ suc (pla
 
 pub record Part (leaf : Bool) (start begin place end : ℕ) (items part : List NodeItem) : Type 0 where
   pub ascends : Ascends begin part
-  pub plain : IsPlain leaf part
+  pub plain : KeepsNoGap leaf part
   pub more : take end items ≡ take place items ++ part
-  pub ending : end_of begin part ≡ end_of start (take end items)
+  pub ending : items_end begin part ≡ items_end start (take end items)
   pub long : length part ≡ end - place
 
 pub part_of : (leaf : Bool) (start begin place end : ℕ) (items : List NodeItem) → place ≤ end → end ≤ length items
-    → begin ≡ end_of start (take place items) → Ascends start items → IsPlain leaf items
+    → begin ≡ items_end start (take place items) → Ascends start items → KeepsNoGap leaf items
     → Part leaf start begin place end items (take (end - place) (drop place items))
 part_of leaf start begin place end items order within begins ascends plain =
     let part = take (end - place) (drop place items) in
@@ -69,31 +69,31 @@ part_of leaf start begin place end items order within begins ascends plain =
     let more : take end items ≡ take place items ++ part = sym (ap (λ (n : ℕ). take n items) e) ∙ take_split place (end - place) items in
     let whole : Ascends start (take end items) =
     Ascends-left start (take end items) (drop end items) (subst (λ (xs : List NodeItem). Ascends start xs) (sym (take-append-drop end items)) ascends) in
-    let clear : IsPlain leaf (take end items) =
-    IsPlain-left leaf (take end items) (drop end items) (subst (λ (xs : List NodeItem). IsPlain leaf xs) (sym (take-append-drop end items)) plain) in
-    let there : Ascends (end_of start (take place items)) part =
+    let clear : KeepsNoGap leaf (take end items) =
+    IsPlain-left leaf (take end items) (drop end items) (subst (λ (xs : List NodeItem). KeepsNoGap leaf xs) (sym (take-append-drop end items)) plain) in
+    let there : Ascends (items_end start (take place items)) part =
     Ascends-right start (take place items) part (subst (λ (xs : List NodeItem). Ascends start xs) more whole) in
     let rest = length-drop place items in
     record {
       ascends = subst (λ (p : ℕ). Ascends p part) (sym begins) there;
-      plain = IsPlain-right leaf (take place items) part (subst (λ (xs : List NodeItem). IsPlain leaf xs) more clear);
+      plain = IsPlain-right leaf (take place items) part (subst (λ (xs : List NodeItem). KeepsNoGap leaf xs) more clear);
       more = more;
-      ending = ap (λ (p : ℕ). end_of p part) begins ∙ sym (end_of-append start (take place items) part) ∙ sym (ap (end_of start) more);
+      ending = ap (λ (p : ℕ). items_end p part) begins ∙ sym (end_of-append start (take place items) part) ∙ sym (ap (items_end start) more);
       long = length-take-le (end - place) (drop place items) (omega arith);
     }
 
 -- what holds once the items up to a place are packed
 pub record Packed (rows0 rows : List (List ℕ)) (free0 free : List ℕ) (leaf : Bool) (start begin place : ℕ) (items packed : List NodeItem) : Type 0 where
   pub within : place ≤ length items
-  pub begins : begin ≡ end_of start (take place items)
-  pub nodes : (limit : ℕ) → (end_of start items < limit → least leaf ≤ length items) → AreNodes (at_of rows) leaf limit start packed
-  pub ends : end_of start packed ≡ begin
+  pub begins : begin ≡ items_end start (take place items)
+  pub nodes : (limit : ℕ) → (items_end start items < limit → least_items leaf ≤ length items) → AreNodes (at_of rows) leaf limit start packed
+  pub ends : items_end start packed ≡ begin
   pub under : below (at_of rows) leaf packed ≡ take place items
-  pub rest : place < length items → least leaf ≤ length items → least leaf ≤ length items - place
+  pub rest : place < length items → least_items leaf ≤ length items → least_items leaf ≤ length items - place
   pub count : (length items - place) + most leaf * length packed ≤ 3 * most leaf
   pub some : 1 ≤ place → 1 ≤ length packed
-  pub kept : (row : ℕ) → times row free0 ≡ 0 → at_of rows row ≡ at_of rows0 row
-  pub taken : (row : ℕ) → times row free0 ≡ times row free + times row (rows_in packed)
+  pub kept : (row : ℕ) → times_among row free0 ≡ 0 → at_of rows row ≡ at_of rows0 row
+  pub taken : (row : ℕ) → times_among row free0 ≡ times_among row free + times_among row (rows_in packed)
   pub room : length free0 ≡ length free + length packed
 
 count_more : (leaf : Bool) (left count nodes : ℕ) → 1 ≤ left → left + most leaf * nodes ≤ 3 * most leaf → (left ≤ most leaf → count ≡ left)
@@ -120,8 +120,8 @@ count_more false left count nodes some fits one two three =
 pub record Share (leaf : Bool) (left count : ℕ) : Type 0 where
   pub some : 1 ≤ count
   pub within : count ≤ left
-  pub full : count < left → least leaf ≤ count
-  pub over : count < left → least leaf ≤ left - count
+  pub full : count < left → least_items leaf ≤ count
+  pub over : count < left → least_items leaf ≤ left - count
   pub one : left ≤ most leaf → count ≡ left
   pub two : left ≤ 2 * most leaf → left - count ≤ most leaf
   pub three : left ≤ 3 * most leaf → left - count ≤ 2 * most leaf
@@ -131,34 +131,34 @@ pub pack_more : (rows0 rows rows' : List (List ℕ)) (free0 free free' : List �
     (items packed packed' : List NodeItem) (node : NodeItem) (words : List ℕ)
     → Packed rows0 rows free0 free leaf start begin place items packed
     → place < length items → end ≡ place + count → Share leaf (length items - place) count
-    → Ascends start items → IsPlain leaf items → ((row : ℕ) → times row free0 ≤ 1)
-    → ((limit : ℕ) → (end_of begin (take (end - place) (drop place items)) < limit → least leaf ≤ length (take (end - place) (drop place items)))
+    → Ascends start items → KeepsNoGap leaf items → ((row : ℕ) → times_among row free0 ≤ 1)
+    → ((limit : ℕ) → (items_end begin (take (end - place) (drop place items)) < limit → least_items leaf ≤ length (take (end - place) (drop place items)))
     → IsNode (at_of rows') leaf limit begin node)
-    → read (at_of rows') leaf node.word ≡ take (end - place) (drop place items)
-    → node.end ≡ end_of begin (take (end - place) (drop place items))
-    → rows' ≡ set rows node.word words → length free ≡ length free' + 1 → ((row : ℕ) → times row free ≡ times row (node.word ∷ free')) → packed' ≡ packed ++ node ∷ []
+    → items_at (at_of rows') leaf node.word ≡ take (end - place) (drop place items)
+    → node.end ≡ items_end begin (take (end - place) (drop place items))
+    → rows' ≡ set rows node.word words → length free ≡ length free' + 1 → ((row : ℕ) → times_among row free ≡ times_among row (node.word ∷ free')) → packed' ≡ packed ++ node ∷ []
     → Packed rows0 rows' free0 free' leaf start node.end end items packed'
 pack_more rows0 rows rows' free0 free free' leaf start begin place end count items packed packed' node words before less ends_is share ascends plain once nodes reads until rows_is fewer split packed_is =
     let part = take (end - place) (drop place items) in
     let bound = share.within in
     let is = part_of leaf start begin place end items (omega arith) (omega arith) before.begins ascends plain in
-    let here : times node.word free ≡ 1 + times node.word free' = split node.word ∙ times_same node.word free' in
-    let differ : (row : ℕ) → 1 ≤ times row (rows_in packed) → row ≢ node.word = λ row some same.
+    let here : times_among node.word free ≡ 1 + times_among node.word free' = split node.word ∙ times_same node.word free' in
+    let differ : (row : ℕ) → 1 ≤ times_among row (rows_in packed) → row ≢ node.word = λ row some same.
     let a = before.taken row in let o = once row in
-    let h : 1 ≤ times row free = subst (λ (r : ℕ). 1 ≤ times r free) (sym same) (omega arith) in
+    let h : 1 ≤ times_among row free = subst (λ (r : ℕ). 1 ≤ times_among r free) (sym same) (omega arith) in
     omega arith in
     let stays : (row : ℕ) → row ≢ node.word → at_of rows row ≡ at_of rows' row = λ row other.
     sym (ap (λ (rs : List (List ℕ)). at_of rs row) rows_is ∙ kept_other rows node.word row words other) in
     let agree : Agree (at_of rows) (at_of rows') (rows_in packed) = λ row some. stays row (differ row some) in
     let long : length packed' ≡ length packed + 1 = ap (λ (xs : List NodeItem). length xs) packed_is ∙ length-append packed (node ∷ []) in
-    let all : (limit : ℕ) → (end_of start items < limit → least leaf ≤ length items) → AreNodes (at_of rows') leaf limit start (packed ++ node ∷ []) =
+    let all : (limit : ℕ) → (items_end start items < limit → least_items leaf ≤ length items) → AreNodes (at_of rows') leaf limit start (packed ++ node ∷ []) =
     λ limit full.
-    let one = nodes limit (λ low. elim (cases_lt count (length items - place)) as (λ _. least leaf ≤ length part) [
+    let one = nodes limit (λ low. elim (cases_lt count (length items - place)) as (λ _. least_items leaf ≤ length part) [
       | inl short ↦ let f = share.full short in let l = is.long in omega arith
       | inr whole ↦
           let last : end ≡ length items = omega arith in
           let everything : take end items ≡ items = take_all end items (omega arith) in
-          let ending : end_of begin part ≡ end_of start items = is.ending ∙ ap (end_of start) everything in
+          let ending : items_end begin part ≡ items_end start items = is.ending ∙ ap (items_end start) everything in
           let enough = before.rest less (full (omega arith)) in
           let l = is.long in omega arith
     ]) in
@@ -168,7 +168,7 @@ pack_more rows0 rows rows' free0 free free' leaf start begin place end count ite
       within = omega arith;
       begins = until ∙ is.ending;
       nodes = λ limit full. subst (λ (xs : List NodeItem). AreNodes (at_of rows') leaf limit start xs) (sym packed_is) (all limit full);
-      ends = ap (end_of start) packed_is ∙ end_of-append start packed (node ∷ []);
+      ends = ap (items_end start) packed_is ∙ end_of-append start packed (node ∷ []);
       under = ap (below (at_of rows') leaf) packed_is ∙ below_pushed (at_of rows) (at_of rows') leaf packed node part agree reads ∙ ap (λ (xs : List NodeItem). xs ++ part) before.under ∙ sym is.more;
       rest = λ more enough. let o = share.over (omega arith) in omega arith;
       count =
@@ -179,12 +179,12 @@ pack_more rows0 rows rows' free0 free free' leaf start begin place end count ite
       some = λ past. omega arith;
       kept = λ row none.
           let a = before.taken row in
-          let h : times row free ≡ 0 = omega arith in
+          let h : times_among row free ≡ 0 = omega arith in
           let other : row ≢ node.word = apart row node.word free h (omega arith) in
           sym (stays row other) ∙ before.kept row none;
       taken = λ row.
           let a = before.taken row in let b = split row in
-          let d = ap (λ (xs : List NodeItem). times row (rows_in xs)) packed_is in
+          let d = ap (λ (xs : List NodeItem). times_among row (rows_in xs)) packed_is in
           let e = times-rows_in row packed (node ∷ []) in omega arith;
       room = let a = before.room in omega (arith, fewer);
     }

@@ -5,8 +5,8 @@ use Rattle.std.proofs.lemmas.Bool.Decides.{nat_tests}
 use Rattle.std.proofs.lemmas.List.{length-set, length-map}
 use Rattle.grace_core.specs.Core as grace
 use Rattle.maple_node.specs.declared.item.NodeItem.{NodeItem}
-use Rattle.maple_node.specs.Nodes.{leaf_items, least, end_of, Ascends, IsPlain, gap_of, items_of}
-use Rattle.maple_node.specs.Levels.{is_leaf, at_of, read, item_at, IsNode, level_of, IsTower, rows_of, times}
+use Rattle.maple_node.specs.Nodes.{leaf_items, least_items, items_end, Ascends, KeepsNoGap, gap_of, node_items}
+use Rattle.maple_node.specs.Levels.{is_leaf, at_of, items_at, item_at, IsNode, level_of, IsTower, rows_below, times_among}
 use Rattle.maple_node.specs.Trees.{Tree, Pair, top_of, entries_of, tree_rows, pairs_from, pairs_of, ApartFrom, IsLayout}
 use Rattle.maple_node.proofs.Trees.{root-named, limit_above}
 use Rattle.maple_node.specs.Splices.{ending_by, ending_after, piece_of, overwrite, gap_end, widened_lo, widened_hi}
@@ -18,13 +18,13 @@ use Rattle.node_slots.specs.declared.tree.Tree.{Tree as View}
 use Rattle.node_slots.specs.declared.view.Size.{Size}
 use Rattle.node_slots.specs.declared.view.NodeView.{NodeView}
 use Rattle.node_slots.specs.declared.seats.NodeWriter.{NodeWriter}
-use Rattle.node_slots.specs.Seats.{sight, writer_state, row_count, free_of, left_of, is_kept, count_of}
+use Rattle.node_slots.specs.Seats.{node_sight, writer_state, row_count, free_of, retired_rows, is_kept, one_where}
 use Rattle.node_slots.specs.Built.{words_at, built, IsBuilt, IsWriters, pairs_now}
 use Rattle.node_slots.proofs.Listing.{gone_few}
 use Rattle.maple_write.specs.declared.rows.Rooted.{Rooted}
-use Rattle.maple_write.specs.Internal.Tables.{Table, table_at, gone}
+use Rattle.maple_write.specs.Internal.Tables.{RowTable, table_at, gone}
 use Rattle.maple_write.specs.Tables.{FillsRows}
-use Rattle.maple_write.specs.Internal.Stores.{old_level, IsShaped, IsWhole, Finds, tree_under, all_gap}
+use Rattle.maple_write.specs.Internal.Stores.{old_level, IsShaped, IsWholeTree, FindsTree, tree_under, all_gap}
 use Rattle.maple_write.proofs.Levels.{AreNodes, row_there, step_down, level_of-top}
 use Rattle.maple_write.proofs.Times.{whole_list}
 use Rattle.maple_write.proofs.Steps.{counts}
@@ -33,11 +33,11 @@ use Rattle.maple_write.proofs.Roots.{full, first_entries}
 use Rattle.maple_write.proofs.Blocks.{length-ending_after}
 
 -- the entries of a tree have all its pages
-pub record Covers (table : Table) (tree : Tree) : Type 0 where
+pub record Covers (table : RowTable) (tree : Tree) : Type 0 where
   pub ascends : Ascends 0 (entries_of (at_of table.rows) tree)
-  pub ends : end_of 0 (entries_of (at_of table.rows) tree) ≡ tree.top.end
+  pub ends : items_end 0 (entries_of (at_of table.rows) tree) ≡ tree.top.end
 
-pub covers : (table : Table) (tree : Tree) → IsShaped table tree → Covers table tree
+pub covers : (table : RowTable) (tree : Tree) → IsShaped table tree → Covers table tree
 covers table tree shaped =
     let at = at_of table.rows in
     let top = tree.top in
@@ -45,21 +45,21 @@ covers table tree shaped =
     let is = full table (record { top = top; height = tree.height }) 0 (subst (λ (n : ℕ). IsTower at top.end 0 n (top ∷ [])) e shaped.tower) shaped.limit in
     record {
       ascends = subst (λ (n : ℕ). Ascends 0 (level_of at 0 n (top ∷ []))) (sym e) is.ascends;
-      ends = ap (λ (n : ℕ). end_of 0 (level_of at 0 n (top ∷ []))) e ∙ is.ends;
+      ends = ap (λ (n : ℕ). items_end 0 (level_of at 0 n (top ∷ []))) e ∙ is.ends;
     }
 
 -- what was found at the lowest level is an entry
-pub entry_found : (table : Table) (tree : Rooted) (page : ℕ) (item : NodeItem) → item_at page (old_level table tree 0) ≡ Some item
+pub entry_found : (table : RowTable) (tree : Rooted) (page : ℕ) (item : NodeItem) → item_at page (old_level table tree 0) ≡ Some item
     → item_at page (entries_of (at_of table.rows) (tree_under tree)) ≡ Some item
 entry_found table tree page item found =
     let e : tree.height ≡ tree.height - 0 = omega arith in
     ap (λ (n : ℕ). item_at page (level_of (at_of table.rows) 0 n (tree.top ∷ []))) e ∙ found
 
-pub entry_begins : (table : Table) (tree : Rooted) (page start : ℕ) → start ≡ end_of 0 (ending_by page (old_level table tree 0))
-    → start ≡ end_of 0 (ending_by page (entries_of (at_of table.rows) (tree_under tree)))
+pub entry_begins : (table : RowTable) (tree : Rooted) (page start : ℕ) → start ≡ items_end 0 (ending_by page (old_level table tree 0))
+    → start ≡ items_end 0 (ending_by page (entries_of (at_of table.rows) (tree_under tree)))
 entry_begins table tree page start begins =
     let e : tree.height - 0 ≡ tree.height = omega arith in
-    begins ∙ ap (λ (n : ℕ). end_of 0 (ending_by page (level_of (at_of table.rows) 0 n (tree.top ∷ [])))) e
+    begins ∙ ap (λ (n : ℕ). items_end 0 (ending_by page (level_of (at_of table.rows) 0 n (tree.top ∷ [])))) e
 
 -- the root is a node in a row of the table
 root_is : (at : ℕ → List ℕ) (limit height : ℕ) (top : NodeItem) → 1 ≤ height → IsTower at limit 0 height (top ∷ []) → IsNode at (is_leaf (height - 1)) limit 0 top
@@ -70,7 +70,7 @@ root_is at limit height top tall tower =
     let whole = level_of-top at height height (top ∷ []) (omega arith) in
     (subst (λ (xs : List NodeItem). AreNodes at (is_leaf (height - 1)) limit 0 xs) whole step.nodes).0
 
-pub root_there : (table : Table) (tree : Tree) → IsShaped table tree → tree.top.word < length table.rows
+pub root_there : (table : RowTable) (tree : Tree) → IsShaped table tree → tree.top.word < length table.rows
 root_there table tree shaped =
     let node = root_is (at_of table.rows) tree.top.end tree.height tree.top shaped.tall shaped.tower in
     row_there table.rows (is_leaf (tree.height - 1)) tree.top.end 0 tree.top node
@@ -81,7 +81,7 @@ unfolding widened_lo
 lo_zero page xs none = let test : nat_eq page 0 ≡ true = grind (arith, nat_tests) in rw test refl
 
 pub lo_gap : (page start : ℕ) (item : NodeItem) (xs : List NodeItem) → page ≢ 0 → item_at (page - 1) xs ≡ Some item
-    → start ≡ end_of 0 (ending_by (page - 1) xs) → item.word ≡ 0 → start ≡ widened_lo page xs
+    → start ≡ items_end 0 (ending_by (page - 1) xs) → item.word ≡ 0 → start ≡ widened_lo page xs
 unfolding widened_lo
 lo_gap page start item xs some found begins gap =
     let test : nat_eq page 0 ≡ false = grind (arith, nat_tests) in
@@ -96,7 +96,7 @@ lo_slot page item xs some found slot =
     rw (test, found, is) refl
 
 -- where a gap ends that has a page
-pub hi_none : (page : ℕ) (xs : List NodeItem) → Ascends 0 xs → end_of 0 xs ≤ page → page ≡ widened_hi page xs
+pub hi_none : (page : ℕ) (xs : List NodeItem) → Ascends 0 xs → items_end 0 xs ≤ page → page ≡ widened_hi page xs
 unfolding widened_hi
 hi_none page xs ascends ends = sym (ap (gap_end page) (item_at-past 0 page xs ascends ends))
 
@@ -114,9 +114,9 @@ pub record Spanned (slots lo hi : ℕ) (xs : List NodeItem) : Type 0 where
   pub apart : ApartFrom 1 xs
   pub numbered : All (λ (entry : NodeItem). entry.word ≤ slots) xs
   pub some : lo < hi
-  pub limit : hi ≤ end_of 0 xs
+  pub limit : hi ≤ items_end 0 xs
 
-pub spanned : (table : Table) (slots lo hi : ℕ) (tree : Tree) → IsWhole table slots tree → lo < hi → hi ≤ tree.top.end
+pub spanned : (table : RowTable) (slots lo hi : ℕ) (tree : Tree) → IsWholeTree table slots tree → lo < hi → hi ≤ tree.top.end
     → Spanned slots lo hi (entries_of (at_of table.rows) tree)
 spanned table slots lo hi tree whole some limit =
     let all = covers table tree whole.shaped in
@@ -124,7 +124,7 @@ spanned table slots lo hi tree whole some limit =
     record { ascends = all.ascends; apart = whole.apart; numbered = whole.numbered; some = some; limit = omega arith }
 
 -- a gap that takes in those beside it has a page, and ends within the tree
-pub gap_within : (table : Table) (slots lo hi low high : ℕ) (tree : Tree) → IsWhole table slots tree → lo < hi → hi ≤ tree.top.end
+pub gap_within : (table : RowTable) (slots lo hi low high : ℕ) (tree : Tree) → IsWholeTree table slots tree → lo < hi → hi ≤ tree.top.end
     → low ≡ widened_lo lo (entries_of (at_of table.rows) tree) → high ≡ widened_hi hi (entries_of (at_of table.rows) tree)
     → (low < high) × (high ≤ tree.top.end)
 gap_within table slots lo hi low high tree whole some limit begins ends =
@@ -134,12 +134,12 @@ gap_within table slots lo hi low high tree whole some limit begins ends =
     let all = covers table tree whole.shaped in (omega (arith, begins, ends, is.down, is.up), omega (arith, ends, is.limit, all.ends))
 
 -- what a store makes of the entries
-pub record Stored (after : Table) (slots : ℕ) (new : Tree) (pairs : List Pair) : Type 0 where
-  pub whole : IsWhole after slots new
+pub record Stored (after : RowTable) (slots : ℕ) (new : Tree) (pairs : List Pair) : Type 0 where
+  pub whole : IsWholeTree after slots new
   pub pairs_are : pairs_of (at_of after.rows) new ≡ pairs
 
 -- by a slot
-pub slot_stored : (after : Table) (slots lo hi word : ℕ) (new : Tree) (xs : List NodeItem) → Spanned slots lo hi xs → word ≤ slots → word ≢ 0
+pub slot_stored : (after : RowTable) (slots lo hi word : ℕ) (new : Tree) (xs : List NodeItem) → Spanned slots lo hi xs → word ≤ slots → word ≢ 0
     → IsShaped after new → entries_of (at_of after.rows) new ≡ overwrite lo hi word xs
     → Stored after slots new (overwritten lo hi word (pairs_from 0 xs))
 slot_stored after slots lo hi word new xs found fits slot shaped entries =
@@ -154,7 +154,7 @@ slot_stored after slots lo hi word new xs found fits slot shaped entries =
     }
 
 -- by a gap, which takes in those beside it
-pub gap_stored : (after : Table) (slots lo hi low high : ℕ) (new : Tree) (xs : List NodeItem) → Spanned slots lo hi xs → IsShaped after new
+pub gap_stored : (after : RowTable) (slots lo hi low high : ℕ) (new : Tree) (xs : List NodeItem) → Spanned slots lo hi xs → IsShaped after new
     → low ≡ widened_lo lo xs → high ≡ widened_hi hi xs
     → entries_of (at_of after.rows) new ≡ overwrite low high 0 xs → Stored after slots new (overwritten lo hi 0 (pairs_from 0 xs))
 gap_stored after slots lo hi low high new xs found shaped begins ends entries =
@@ -176,7 +176,7 @@ gap_stored after slots lo hi low high new xs found shaped begins ends entries =
 pub record Gap (limit : ℕ) : Type 0 where
   pub ascends : Ascends 0 (all_gap limit)
   pub apart : ApartFrom 1 (all_gap limit)
-  pub plain : IsPlain true (all_gap limit)
+  pub plain : KeepsNoGap true (all_gap limit)
 
 pub gap_is : (limit : ℕ) → 0 < limit → Gap limit
 gap_is limit some = record { ascends = (some, tt); apart = ((λ one zero. absurd (omega arith)), tt); plain = (refl, tt) }
@@ -191,32 +191,32 @@ gap_spanned limit slots lo hi some within =
     record { ascends = gap.ascends; apart = gap.apart; numbered = gap_numbered limit slots; some = some; limit = within }
 
 -- the first leaf of a tree
-pub record FirstLeaf (after : Table) (limit : ℕ) (items : List NodeItem) (top : NodeItem) : Type 0 where
+pub record FirstLeaf (after : RowTable) (limit : ℕ) (items : List NodeItem) (top : NodeItem) : Type 0 where
   pub shaped : IsShaped after (record { top = top; height = 1 })
   pub entries : entries_of (at_of after.rows) (record { top = top; height = 1 }) ≡ items
 
-zero_once : (row : ℕ) → times row (0 ∷ []) ≡ cond (nat_eq row 0) 1 0
+zero_once : (row : ℕ) → times_among row (0 ∷ []) ≡ cond (nat_eq row 0) 1 0
 zero_once zero = refl
 zero_once (suc row) =
     let a : nat_eq 0 (suc row) ≡ false = grind (arith, nat_tests) in
     let b : nat_eq (suc row) 0 ≡ false = grind (arith, nat_tests) in
     rw (a, b) refl
 
-pub leaf_made : (old made after : Table) (limit : ℕ) (items : List NodeItem) (top : NodeItem) (words : List ℕ)
+pub leaf_made : (old made after : RowTable) (limit : ℕ) (items : List NodeItem) (top : NodeItem) (words : List ℕ)
     → ((row : ℕ) → gone old row + cond (nat_eq row 0) 1 0 ≡ cond (nat_lt row (length old.rows)) 1 0)
-    → 0 < limit → end_of 0 items ≡ limit
-    → ((most : ℕ) → (end_of 0 items < most → least true ≤ length items) → IsNode (at_of made.rows) true most 0 top)
-    → read (at_of made.rows) true top.word ≡ items → top.end ≡ end_of 0 items
-    → made.rows ≡ set old.rows top.word words → ((row : ℕ) → times row old.free ≡ times row (top.word ∷ made.free)) → made.left ≡ old.left
-    → after.rows ≡ made.rows → ((row : ℕ) → gone after row ≡ gone made row + times row (0 ∷ []))
+    → 0 < limit → items_end 0 items ≡ limit
+    → ((most : ℕ) → (items_end 0 items < most → least_items true ≤ length items) → IsNode (at_of made.rows) true most 0 top)
+    → items_at (at_of made.rows) true top.word ≡ items → top.end ≡ items_end 0 items
+    → made.rows ≡ set old.rows top.word words → ((row : ℕ) → times_among row old.free ≡ times_among row (top.word ∷ made.free)) → made.left ≡ old.left
+    → after.rows ≡ made.rows → ((row : ℕ) → gone after row ≡ gone made row + times_among row (0 ∷ []))
     → FirstLeaf after limit items top
-unfolding IsTower rows_of level_of
+unfolding IsTower rows_below level_of
 leaf_made old made after limit items top words kept some ends node reads until rows free left rows' gone' =
     let at = at_of after.rows in
     let back = sym rows' in
     let is : IsNode at true top.end 0 top =
     subst (λ (rs : List (List ℕ)). IsNode (at_of rs) true top.end 0 top) back (node top.end (λ less. absurd (omega arith))) in
-    let items_are : read at true top.word ≡ items = ap (λ (rs : List (List ℕ)). read (at_of rs) true top.word) rows' ∙ reads in
+    let items_are : items_at at true top.word ≡ items = ap (λ (rs : List (List ℕ)). items_at (at_of rs) true top.word) rows' ∙ reads in
     record {
       shaped = record {
         tall = omega arith;
@@ -228,7 +228,7 @@ leaf_made old made after limit items top words kept some ends node reads until r
               let a = kept row in
               let b = gone' row in
               let d = free row in
-              let e = ap (times row) left in
+              let e = ap (times_among row) left in
               let f = zero_once row in
               let long : length after.rows ≡ length old.rows =
               ap (λ (rs : List (List ℕ)). length rs) (rows' ∙ rows) ∙ length-set old.rows top.word words in
@@ -236,32 +236,32 @@ leaf_made old made after limit items top words kept some ends node reads until r
               omega arith;
         };
       };
-      entries = whole_list (read at true top.word) ∙ items_are;
+      entries = whole_list (items_at at true top.word) ∙ items_are;
     }
 
 -- what the writer's view finds
-blank_at : (at : ℕ → List ℕ) → at 0 ≡ replicate 32 0 → read at true 0 ≡ []
+blank_at : (at : ℕ → List ℕ) → at 0 ≡ replicate 32 0 → items_at at true 0 ≡ []
 unfolding leaf_items
 blank_at at zeros = ap (λ (words : List ℕ). leaf_items words) zeros
 
-blank_tree : (at : ℕ → List ℕ) (height root : ℕ) → height ≡ 1 → root ≡ 0 → at 0 ≡ replicate 32 0 → read at (is_leaf (height - 1)) root ≡ []
+blank_tree : (at : ℕ → List ℕ) (height root : ℕ) → height ≡ 1 → root ≡ 0 → at 0 ≡ replicate 32 0 → items_at at (is_leaf (height - 1)) root ≡ []
 blank_tree at height root one none zeros =
-    subst (λ (h : ℕ). read at (is_leaf (h - 1)) root ≡ []) (sym one)
-    (subst (λ (r : ℕ). read at true r ≡ []) (sym none) (blank_at at zeros))
+    subst (λ (h : ℕ). items_at at (is_leaf (h - 1)) root ≡ []) (sym one)
+    (subst (λ (r : ℕ). items_at at true r ≡ []) (sym none) (blank_at at zeros))
 
 blank_entries : (at : ℕ → List ℕ) (height : ℕ) (top : NodeItem) → height ≡ 1 → top.word ≡ 0 → at 0 ≡ replicate 32 0
     → entries_of at (record { top = top; height = height }) ≡ []
 unfolding level_of
 blank_entries at height top one none zeros =
     ap (λ (h : ℕ). level_of at 0 h (top ∷ [])) one
-    ∙ ap (λ (r : ℕ). read at true r ++ []) none
+    ∙ ap (λ (r : ℕ). items_at at true r ++ []) none
     ∙ ap (λ (xs : List NodeItem). xs ++ []) (blank_at at zeros)
 
-whole_of : (writer : NodeWriter) (tree : View) → IsBuilt writer tree → IsWhole (table_at writer) (sight writer).size.slots (built writer tree)
+whole_of : (writer : NodeWriter) (tree : View) → IsBuilt writer tree → IsWholeTree (table_at writer) (node_sight writer).size.slots (built writer tree)
 whole_of writer tree is = record {
   shaped = record {
     tall = is.layout.tall;
-    limit = limit_above (words_at writer) (sight writer).size.slots (built writer tree) is.layout;
+    limit = limit_above (words_at writer) (node_sight writer).size.slots (built writer tree) is.layout;
     tower = is.layout.tower;
     wide = is.layout.wide;
     stand = record { each = λ row. let a = is.reached row in let b = kept_counts writer row in omega arith };
@@ -270,15 +270,15 @@ whole_of writer tree is = record {
   numbered = is.layout.numbered;
 }
 
-pub finds : (writer : NodeWriter) (tree : View) (old : Rooted) → IsWriters writer tree → tree_under old ≡ built writer tree → Finds writer old tree.limit.0
-finds writer tree old is same = elim is as (λ _. Finds writer old tree.limit.0) [
+pub finds : (writer : NodeWriter) (tree : View) (old : Rooted) → IsWriters writer tree → tree_under old ≡ built writer tree → FindsTree writer old tree.limit.0
+finds writer tree old is same = elim is as (λ _. FindsTree writer old tree.limit.0) [
   | inl made ↦ inl (
-    subst (λ (t : Tree). IsWhole (table_at writer) (sight writer).size.slots t) (sym same) (whole_of writer tree made),
+    subst (λ (t : Tree). IsWholeTree (table_at writer) (node_sight writer).size.slots t) (sym same) (whole_of writer tree made),
     ap (λ (t : Tree). t.top.end) same ∙ made.limit,
   )
   | inr blank ↦ inr (record {
     none = ap (λ (t : Tree). t.top.end) same
-        ∙ ap (end_of 0) (blank_tree (words_at writer) tree.height tree.root.0 blank.height blank.root blank.words);
+        ∙ ap (items_end 0) (blank_tree (words_at writer) tree.height tree.root.0 blank.height blank.root blank.words);
     pairs = ap (pairs_of (words_at writer)) same
         ∙ ap (pairs_from 0) (blank_entries (words_at writer) tree.height (built writer tree).top blank.height blank.root blank.words);
     rows = blank.rows;
@@ -290,9 +290,9 @@ finds writer tree old is same = elim is as (λ _. Finds writer old tree.limit.0)
 pub record Root (writer : NodeWriter) (tree : View) : Type 0 where
   pub leaf : nat_eq tree.height 1 ≡ is_leaf (tree.height - 1)
   pub there : tree.root.0 < row_count writer
-  pub ascends : Ascends 0 (read (words_at writer) (is_leaf (tree.height - 1)) tree.root.0)
-  pub ends : 1 ≤ length (read (words_at writer) (is_leaf (tree.height - 1)) tree.root.0)
-      → tree.limit.0 ≡ end_of 0 (read (words_at writer) (is_leaf (tree.height - 1)) tree.root.0)
+  pub ascends : Ascends 0 (items_at (words_at writer) (is_leaf (tree.height - 1)) tree.root.0)
+  pub ends : 1 ≤ length (items_at (words_at writer) (is_leaf (tree.height - 1)) tree.root.0)
+      → tree.limit.0 ≡ items_end 0 (items_at (words_at writer) (is_leaf (tree.height - 1)) tree.root.0)
 
 one_less : (height : ℕ) → 1 ≤ height → nat_eq height 1 ≡ is_leaf (height - 1)
 one_less height tall = elim (cases_lt height 2) as (λ _. nat_eq height 1 ≡ nat_eq (height - 1) 0) [
@@ -327,15 +327,15 @@ root_of_view writer tree is = elim is as (λ _. Root writer tree) [
 
 -- the tree that the words of its root tell
 pub root_told : (writer : NodeWriter) (tree : View) (end word gap : ℕ) (leaf : Bool) (words : List ℕ) → words ≡ words_at writer word
-    → word ≡ tree.root.0 → leaf ≡ is_leaf (tree.height - 1) → end ≡ end_of 0 (items_of leaf words) → gap ≡ gap_of leaf 0 (items_of leaf words)
+    → word ≡ tree.root.0 → leaf ≡ is_leaf (tree.height - 1) → end ≡ items_end 0 (node_items leaf words) → gap ≡ gap_of leaf 0 (node_items leaf words)
     → record { top = record { end = end; word = word; gap = gap }; height = tree.height } ≡ built writer tree
 root_told writer tree end word gap leaf words told here below ends gaps =
     let kind = is_leaf (tree.height - 1) in
     let top = (built writer tree).top in
-    let are : items_of leaf words ≡ read (words_at writer) kind tree.root.0 =
-    ap (λ (b : Bool). items_of b words) below ∙ ap (items_of kind) told ∙ ap (λ (row : ℕ). read (words_at writer) kind row) here in
-    let end_is : end ≡ top.end = ends ∙ ap (end_of 0) are in
-    let gap_is : gap ≡ top.gap = gaps ∙ ap (λ (b : Bool). gap_of b 0 (items_of leaf words)) below ∙ ap (gap_of kind 0) are in
+    let are : node_items leaf words ≡ items_at (words_at writer) kind tree.root.0 =
+    ap (λ (b : Bool). node_items b words) below ∙ ap (node_items kind) told ∙ ap (λ (row : ℕ). items_at (words_at writer) kind row) here in
+    let end_is : end ≡ top.end = ends ∙ ap (items_end 0) are in
+    let gap_is : gap ≡ top.gap = gaps ∙ ap (λ (b : Bool). gap_of b 0 (node_items leaf words)) below ∙ ap (gap_of kind 0) are in
     let Ends : ℕ → Tree = λ e. record { top = record { end = e; word = word; gap = gap }; height = tree.height } in
     let Is : ℕ → Tree = λ w. record { top = record { end = top.end; word = w; gap = gap }; height = tree.height } in
     let Has : ℕ → Tree = λ g. record { top = record { end = top.end; word = tree.root.0; gap = g }; height = tree.height } in
@@ -354,13 +354,13 @@ pub record BuiltFrom (new : NodeWriter) (t : Tree) (tree : View) : Type 0 where
   pub is : IsBuilt new tree
   pub pairs : pairs_now new tree ≡ pairs_of (words_at new) t
 
-pub built_from : (old new : NodeWriter) (t : Tree) (tree : View) → FillsRows old new → IsWhole (table_at new) (sight old).size.slots t
+pub built_from : (old new : NodeWriter) (t : Tree) (tree : View) → FillsRows old new → IsWholeTree (table_at new) (node_sight old).size.slots t
     → t.top.end ≡ tree.limit.0 → tree.root.0 ≡ t.top.word → tree.height ≡ t.height → BuiltFrom new t tree
 built_from old new t tree fills whole limit root height =
     let at = words_at new in
     let shaped = whole.shaped in
-    let slots : (sight old).size.slots ≡ (sight new).size.slots = sym (ap (λ (v : NodeView). v.size.slots) fills.seen) in
-    let layout : IsLayout at (sight old).size.slots t = record {
+    let slots : (node_sight old).size.slots ≡ (node_sight new).size.slots = sym (ap (λ (v : NodeView). v.size.slots) fills.seen) in
+    let layout : IsLayout at (node_sight old).size.slots t = record {
       tall = shaped.tall;
       tower = shaped.tower;
       wide = shaped.wide;
@@ -368,44 +368,44 @@ built_from old new t tree fills whole limit root height =
       numbered = whole.numbered;
       once = λ row.
           let each = shaped.stand.each row in
-          let few : times row (tree_rows at t) ≤ cond (nat_lt row (length (writer_state new).words)) 1 0 = omega arith in
-          (counts row (length (writer_state new).words) (times row (tree_rows at t)) few).0;
+          let few : times_among row (tree_rows at t) ≤ cond (nat_lt row (length (writer_state new).words)) 1 0 = omega arith in
+          (counts row (length (writer_state new).words) (times_among row (tree_rows at t)) few).0;
     } in
     let made : NodeItem → ℕ → Tree = λ top h. record { top = top; height = h } in
-    let named = root-named at (sight old).size.slots t layout in
+    let named = root-named at (node_sight old).size.slots t layout in
     let same : t ≡ built new tree = ap (λ (i : NodeItem). made i t.height) named
     ∙ ap (λ (h : ℕ). made (top_of at h t.top.word) h) (sym height)
     ∙ ap (λ (r : ℕ). made (top_of at tree.height r) tree.height) (sym root) in
     record {
       is = record {
-        layout = subst (λ (x : Tree). IsLayout at (sight new).size.slots x) same
+        layout = subst (λ (x : Tree). IsLayout at (node_sight new).size.slots x) same
             (subst (λ (n : ℕ). IsLayout at n t) slots layout);
         limit = sym (ap (λ (x : Tree). x.top.end) same) ∙ limit;
         reached = λ row.
             let a = shaped.stand.each row in
             let b = kept_counts new row in
-            let e = ap (λ (x : Tree). times row (tree_rows at x)) same in
+            let e = ap (λ (x : Tree). times_among row (tree_rows at x)) same in
             omega arith;
       };
       pairs = sym (ap (pairs_of at) same);
     }
 
 -- a view that stays while nothing that it tells of changes
-pub still_built : (old new : NodeWriter) (tree : View) → (writer_state new).words ≡ (writer_state old).words → (sight new).size ≡ (sight old).size
-    → free_of new ≡ free_of old → left_of new ≡ left_of old → IsBuilt old tree → IsBuilt new tree
+pub still_built : (old new : NodeWriter) (tree : View) → (writer_state new).words ≡ (writer_state old).words → (node_sight new).size ≡ (node_sight old).size
+    → free_of new ≡ free_of old → retired_rows new ≡ retired_rows old → IsBuilt old tree → IsBuilt new tree
 still_built old new tree words size free left is =
     let made : (ws : List (List ℕ)) → Tree = λ ws. record { top = top_of (at_of ws) tree.height tree.root.0; height = tree.height } in
-    let layout : IsLayout (words_at new) (sight old).size.slots (built new tree) =
-    subst (λ (ws : List (List ℕ)). IsLayout (at_of ws) (sight old).size.slots (made ws)) (sym words) is.layout in
+    let layout : IsLayout (words_at new) (node_sight old).size.slots (built new tree) =
+    subst (λ (ws : List (List ℕ)). IsLayout (at_of ws) (node_sight old).size.slots (made ws)) (sym words) is.layout in
     let kept : (row : ℕ) → is_kept new row ≡ is_kept old row = λ row.
-    ap (λ (s : Size). nat_lt row s.rows && nat_eq (grace.times row (free_of new) + grace.times row (left_of new)) 0) size
-    ∙ ap (λ (xs : List ℕ). nat_lt row (row_count old) && nat_eq (grace.times row xs + grace.times row (left_of new)) 0) free
+    ap (λ (s : Size). nat_lt row s.rows && nat_eq (grace.times row (free_of new) + grace.times row (retired_rows new)) 0) size
+    ∙ ap (λ (xs : List ℕ). nat_lt row (row_count old) && nat_eq (grace.times row xs + grace.times row (retired_rows new)) 0) free
     ∙ ap (λ (xs : List ℕ). nat_lt row (row_count old) && nat_eq (grace.times row (free_of old) + grace.times row xs) 0) left in
     record {
       layout = subst (λ (s : Size). IsLayout (words_at new) s.slots (built new tree)) (sym size) layout;
       limit = ap (λ (ws : List (List ℕ)). (made ws).top.end) words ∙ is.limit;
-      reached = λ row. ap (λ (ws : List (List ℕ)). times row (tree_rows (at_of ws) (made ws))) words ∙ is.reached row
-          ∙ sym (ap count_of (kept row));
+      reached = λ row. ap (λ (ws : List (List ℕ)). times_among row (tree_rows (at_of ws) (made ws))) words ∙ is.reached row
+          ∙ sym (ap one_where (kept row));
     }
 
 -- the span that a gap takes in where all pages are one gap
@@ -414,7 +414,7 @@ gap_lo limit lo less =
     let gap : NodeItem = record { end = limit; word = 0; gap = 0 } in
     elim (cases_lt 0 lo) as (λ _. 0 ≡ widened_lo lo (all_gap limit)) [
       | inl some ↦ lo_gap lo 0 gap (all_gap limit) (λ none. omega arith) (item_at-first (lo - 1) gap [] (omega arith))
-          (sym (ap (end_of 0) (ending_by-later (lo - 1) gap [] (omega arith)))) refl
+          (sym (ap (items_end 0) (ending_by-later (lo - 1) gap [] (omega arith)))) refl
       | inr none ↦ lo_zero lo (all_gap limit) (omega arith)
     ]
 
@@ -451,7 +451,7 @@ gap_entries limit lo hi word new items some within news are =
     let back = ending_after hi (all_gap limit) in
     let front : ending_by lo (all_gap limit) ≡ [] = ending_by-later lo gap [] (omega arith) in
     let found : item_at lo (all_gap limit) ≡ Some gap = item_at-first lo gap [] (omega arith) in
-    let same = first_entries 0 lo hi word gap (all_gap limit) found (sym (ap (end_of 0) front)) in
+    let same = first_entries 0 lo hi word gap (all_gap limit) found (sym (ap (items_end 0) front)) in
     let all : items ≡ (piece ++ entry ∷ []) ++ back = are ∙ ap (λ (xs : List NodeItem). xs ++ back) news in
     let long = ap (λ (xs : List NodeItem). length xs) all in
     let l1 = length-append (piece ++ entry ∷ []) back in
@@ -466,27 +466,27 @@ gap_entries limit lo hi word new items some within news are =
 
 -- row 0 is kept until it is left
 pub kept_after_put : (old made : NodeWriter) (word : ℕ) → ((row : ℕ) → is_kept old row ≡ nat_eq row 0) → 1 ≤ row_count old → FillsRows old made
-    → ((row : ℕ) → times row (free_of old) ≡ times row (word ∷ free_of made)) → left_of made ≡ left_of old → is_kept made 0 ≡ true
+    → ((row : ℕ) → times_among row (free_of old) ≡ times_among row (word ∷ free_of made)) → retired_rows made ≡ retired_rows old → is_kept made 0 ≡ true
 kept_after_put old made word kept rows fills free left =
     let count = kept_counts old 0 in
-    let here = ap count_of (kept 0) in
+    let here = ap one_where (kept 0) in
     let bound = (counts 0 (length (writer_state old).words) (gone (table_at old) 0 + 1) (omega arith)).0 in
     let same = ap (λ (v : NodeView). v.size.rows) fills.seen in
     let a = free 0 in
-    let b = ap (times 0) left in
+    let b = ap (times_among 0) left in
     is_kept_from made 0 (omega arith) (omega arith)
 
 pub kept_zero : (old : NodeWriter) → ((row : ℕ) → is_kept old row ≡ nat_eq row 0) → (row : ℕ)
     → gone (table_at old) row + cond (nat_eq row 0) 1 0 ≡ cond (nat_lt row (length (writer_state old).words)) 1 0
 kept_zero old kept row =
     let count = kept_counts old row in
-    let here = ap count_of (kept row) in
+    let here = ap one_where (kept row) in
     omega arith
 
 -- what a store found, by where the tree ends
-pub found_whole : (writer : NodeWriter) (old : Rooted) (limit : ℕ) → Finds writer old limit → old.top.end ≢ 0
-    → IsWhole (table_at writer) (sight writer).size.slots (tree_under old) × (old.top.end ≡ limit)
-found_whole writer old limit is some = elim is as (λ _. IsWhole (table_at writer) (sight writer).size.slots (tree_under old) × (old.top.end ≡ limit)) [
+pub found_whole : (writer : NodeWriter) (old : Rooted) (limit : ℕ) → FindsTree writer old limit → old.top.end ≢ 0
+    → IsWholeTree (table_at writer) (node_sight writer).size.slots (tree_under old) × (old.top.end ≡ limit)
+found_whole writer old limit is some = elim is as (λ _. IsWholeTree (table_at writer) (node_sight writer).size.slots (tree_under old) × (old.top.end ≡ limit)) [
   | inl whole ↦ whole
   | inr bare ↦ absurd (some bare.none)
 ]

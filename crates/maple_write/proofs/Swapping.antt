@@ -2,13 +2,13 @@
 use Rattle.std.proofs.Common.{ℕ, ◌≡◌, ◌≢◌, ◌<◌, ◌≤◌, Bool, false, nat_eq, List, [], ◌∷◌, length, get_or, Option, Some, None, IfSome, IfNone, refl, sym, ap, subst, ◌∙◌, arith}
 use Rattle.std.proofs.lemmas.Bool.Decides.{nat_tests}
 use Rattle.maple_node.specs.declared.item.NodeItem.{NodeItem}
-use Rattle.maple_node.specs.Nodes.{words_of, items_of, end_of, Ascends, gap_of}
-use Rattle.maple_node.specs.Levels.{is_leaf, at_of, read, item_at}
+use Rattle.maple_node.specs.Nodes.{words_of_items, node_items, items_end, Ascends, gap_of}
+use Rattle.maple_node.specs.Levels.{is_leaf, at_of, items_at, item_at}
 use Rattle.maple_node.proofs.Levels.{nodes-ascend}
 use Rattle.maple_node.specs.declared.place.Place.{Place}
 use Rattle.maple_node.specs.Splices.{ending_by, spliced}
 use Rattle.maple_node.proofs.ItemLists.{stands}
-use Rattle.maple_write.specs.Internal.Tables.{Table}
+use Rattle.maple_write.specs.Internal.Tables.{RowTable}
 use Rattle.maple_write.specs.Internal.Stores.{old_level, Level, old_nodes, node_begin, Partly, IsRenewed}
 use Rattle.maple_write.proofs.Steps.{upper_of, there_at}
 use Rattle.maple_write.proofs.Renewing.{ends_same, source_of, lists_spliced, renewed_is}
@@ -24,13 +24,13 @@ gap_anywhere a b (item ∷ items) = refl
 
 -- what the words of the node above the leaves that has a page tell
 pub record Children (words : List ℕ) (page end gap : ℕ) : Type 0 where
-  pub ascends : Ascends 0 (items_of false words)
-  pub ends : end_of 0 (items_of false words) ≡ end
-  pub within : page < end_of 0 (items_of false words)
-  pub whole : words ≡ words_of false (items_of false words)
-  pub largest : gap_of false 0 (items_of false words) ≡ gap
+  pub ascends : Ascends 0 (node_items false words)
+  pub ends : items_end 0 (node_items false words) ≡ end
+  pub within : page < items_end 0 (node_items false words)
+  pub whole : words ≡ words_of_items false (node_items false words)
+  pub largest : gap_of false 0 (node_items false words) ≡ gap
 
-pub children_of : (table : Table) (level : Level) (item : NodeItem) (words : List ℕ)
+pub children_of : (table : RowTable) (level : Level) (item : NodeItem) (words : List ℕ)
     → Partly table level → level.height < level.tree.height → 0 < level.height → item_at level.lo (old_nodes table level) ≡ Some item
     → words ≡ at_of table.rows item.word → Children words level.lo item.end item.gap
 children_of table level item words partly less inner found is =
@@ -40,32 +40,32 @@ children_of table level item words partly less inner found is =
     let nodes = (upper_of table level partly less).nodes in
     let ascends = nodes-ascend (at_of table.rows) (is_leaf level.height) level.tree.top.end 0 (old_nodes table level) nodes in
     let here = stands 0 level.lo (old_nodes table level) item ascends found in
-    let listed : (leaf : Bool) → read (at_of table.rows) leaf item.word ≡ items_of leaf words = λ leaf. ap (items_of leaf) (sym is) in
+    let listed : (leaf : Bool) → items_at (at_of table.rows) leaf item.word ≡ node_items leaf words = λ leaf. ap (node_items leaf) (sym is) in
     let leafless = inner_is level.height inner in
-    let ends : end_of 0 (items_of (is_leaf level.height) words) ≡ item.end =
-    ap (end_of 0) (sym (listed (is_leaf level.height))) ∙ ends_same 0 begin (read (at_of table.rows) (is_leaf level.height) item.word) there.node.some ∙ there.node.until in
-    let within : level.lo < end_of 0 (items_of (is_leaf level.height) words) = let above = here.above in omega arith in
-    let gap : gap_of (is_leaf level.height) begin (items_of (is_leaf level.height) words) ≡ item.gap =
+    let ends : items_end 0 (node_items (is_leaf level.height) words) ≡ item.end =
+    ap (items_end 0) (sym (listed (is_leaf level.height))) ∙ ends_same 0 begin (items_at (at_of table.rows) (is_leaf level.height) item.word) there.node.some ∙ there.node.until in
+    let within : level.lo < items_end 0 (node_items (is_leaf level.height) words) = let above = here.above in omega arith in
+    let gap : gap_of (is_leaf level.height) begin (node_items (is_leaf level.height) words) ≡ item.gap =
     ap (gap_of (is_leaf level.height) begin) (sym (listed (is_leaf level.height))) ∙ there.node.gap in
     record {
-      ascends = subst (λ (b : Bool). Ascends 0 (items_of b words)) leafless source.ascends;
-      ends = subst (λ (b : Bool). end_of 0 (items_of b words) ≡ item.end) leafless ends;
-      within = subst (λ (b : Bool). level.lo < end_of 0 (items_of b words)) leafless within;
-      whole = subst (λ (b : Bool). words ≡ words_of b (items_of b words)) leafless source.whole;
-      largest = gap_anywhere 0 begin (items_of false words)
-          ∙ subst (λ (b : Bool). gap_of b begin (items_of b words) ≡ item.gap) leafless gap;
+      ascends = subst (λ (b : Bool). Ascends 0 (node_items b words)) leafless source.ascends;
+      ends = subst (λ (b : Bool). items_end 0 (node_items b words) ≡ item.end) leafless ends;
+      within = subst (λ (b : Bool). level.lo < items_end 0 (node_items b words)) leafless within;
+      whole = subst (λ (b : Bool). words ≡ words_of_items b (node_items b words)) leafless source.whole;
+      largest = gap_anywhere 0 begin (node_items false words)
+          ∙ subst (λ (b : Bool). gap_of b begin (node_items b words) ≡ item.gap) leafless gap;
     }
 
 -- the only new item ends where they end
-pub only_ends : (table : Table) (level : Level) (child : NodeItem) → Partly table level → level.new ≡ child ∷ [] → child.end ≡ level.hi
+pub only_ends : (table : RowTable) (level : Level) (child : NodeItem) → Partly table level → level.new ≡ child ∷ [] → child.end ≡ level.hi
 only_ends table level child partly one =
-    sym (ap (end_of (end_of 0 (ending_by level.lo (old_level table level.tree level.height)))) one) ∙ partly.ending
+    sym (ap (items_end (items_end 0 (ending_by level.lo (old_level table level.tree level.height)))) one) ∙ partly.ending
 
 -- a child in a node that ends below a page ends elsewhere
 pub ends_before : (words : List ℕ) (page end gap hi : ℕ) (child : NodeItem) → Children words page end gap → end < hi
-    → item_at page (items_of false words) ≡ Some child → child.end ≢ hi
+    → item_at page (node_items false words) ≡ Some child → child.end ≢ hi
 ends_before words page end gap hi child is past found same =
-    let within = (stands 0 page (items_of false words) child is.ascends found).within in
+    let within = (stands 0 page (node_items false words) child is.ascends found).within in
     let ends = is.ends in
     omega arith
 
@@ -75,43 +75,43 @@ if_none None p more = more p
 if_none (Some gap) p more = tt
 
 -- the node anew, and its largest gap
-pub record Swapped (table : Table) (level : Level) (left : Place) (made : List ℕ) (gap : ℕ) : Type 0 where
+pub record Swapped (table : RowTable) (level : Level) (left : Place) (made : List ℕ) (gap : ℕ) : Type 0 where
   pub renewed : IsRenewed table level left made
-  pub largest : gap ≡ gap_of (is_leaf level.height) left.start (items_of (is_leaf level.height) made)
+  pub largest : gap ≡ gap_of (is_leaf level.height) left.start (node_items (is_leaf level.height) made)
 
-pub swapped_is : (table : Table) (level : Level) (left : Place) (child : NodeItem) (words made : List ℕ) (gap : ℕ)
+pub swapped_is : (table : RowTable) (level : Level) (left : Place) (child : NodeItem) (words made : List ℕ) (gap : ℕ)
     → Partly table level → level.height < level.tree.height → 0 < level.height → level.new ≡ child ∷ []
     → item_at level.lo (old_nodes table level) ≡ Some left.item
     → left.start ≡ node_begin table level → level.hi ≤ left.item.end
     → words ≡ at_of table.rows left.item.word
-    → made ≡ words_of false (spliced level.lo child.end (child ∷ []) (items_of false words))
-    → length (spliced level.lo child.end (child ∷ []) (items_of false words)) ≡ length (items_of false words)
-    → gap ≡ gap_of false 0 (spliced level.lo child.end (child ∷ []) (items_of false words))
+    → made ≡ words_of_items false (spliced level.lo child.end (child ∷ []) (node_items false words))
+    → length (spliced level.lo child.end (child ∷ []) (node_items false words)) ≡ length (node_items false words)
+    → gap ≡ gap_of false 0 (spliced level.lo child.end (child ∷ []) (node_items false words))
     → Swapped table level left made gap
 swapped_is table level left child words made gap partly less inner one found begins within is told count largest =
     let leaf = is_leaf level.height in
     let leafless = inner_is level.height inner in
     let ends = only_ends table level child partly one in
-    let same : spliced level.lo child.end (child ∷ []) (items_of false words) ≡ spliced level.lo level.hi level.new (items_of false words) =
-    ap (λ (xs : List NodeItem). spliced level.lo child.end xs (items_of false words)) (sym one)
-    ∙ ap (λ (p : ℕ). spliced level.lo p level.new (items_of false words)) ends in
-    let told_here : made ≡ words_of leaf (spliced level.lo level.hi level.new (items_of leaf words)) =
-    subst (λ (b : Bool). made ≡ words_of b (spliced level.lo level.hi level.new (items_of b words))) (sym leafless) (told ∙ ap (words_of false) same) in
-    let count_here : length (spliced level.lo level.hi level.new (items_of leaf words)) ≡ length (items_of leaf words) =
-    subst (λ (b : Bool). length (spliced level.lo level.hi level.new (items_of b words)) ≡ length (items_of b words)) (sym leafless)
+    let same : spliced level.lo child.end (child ∷ []) (node_items false words) ≡ spliced level.lo level.hi level.new (node_items false words) =
+    ap (λ (xs : List NodeItem). spliced level.lo child.end xs (node_items false words)) (sym one)
+    ∙ ap (λ (p : ℕ). spliced level.lo p level.new (node_items false words)) ends in
+    let told_here : made ≡ words_of_items leaf (spliced level.lo level.hi level.new (node_items leaf words)) =
+    subst (λ (b : Bool). made ≡ words_of_items b (spliced level.lo level.hi level.new (node_items b words))) (sym leafless) (told ∙ ap (words_of_items false) same) in
+    let count_here : length (spliced level.lo level.hi level.new (node_items leaf words)) ≡ length (node_items leaf words) =
+    subst (λ (b : Bool). length (spliced level.lo level.hi level.new (node_items b words)) ≡ length (node_items b words)) (sym leafless)
     (sym (ap (λ (xs : List NodeItem). length xs) same) ∙ count) in
     let there = there_at table level level.lo left.item partly less found in
-    let long : length (items_of leaf words) ≡ length (read (at_of table.rows) leaf left.item.word) = ap (λ (ws : List ℕ). length (items_of leaf ws)) is in
+    let long : length (node_items leaf words) ≡ length (items_at (at_of table.rows) leaf left.item.word) = ap (λ (ws : List ℕ). length (node_items leaf ws)) is in
     let few = there.node.most in
     let lists = lists_spliced table level left words made partly less found begins within is told_here in
-    let lists_here : items_of false made ≡ spliced level.lo level.hi level.new (items_of false words) =
-    subst (λ (b : Bool). items_of b made ≡ spliced level.lo level.hi level.new (items_of b words)) leafless lists in
-    let gap_here : gap ≡ gap_of false left.start (items_of false made) =
-    largest ∙ ap (gap_of false 0) (same ∙ sym lists_here) ∙ gap_anywhere 0 left.start (items_of false made) in
+    let lists_here : node_items false made ≡ spliced level.lo level.hi level.new (node_items false words) =
+    subst (λ (b : Bool). node_items b made ≡ spliced level.lo level.hi level.new (node_items b words)) leafless lists in
+    let gap_here : gap ≡ gap_of false left.start (node_items false made) =
+    largest ∙ ap (gap_of false 0) (same ∙ sym lists_here) ∙ gap_anywhere 0 left.start (node_items false made) in
     record {
-      renewed = renewed_is table level (length (items_of leaf words)) left words made partly less found begins within is told_here
+      renewed = renewed_is table level (length (node_items leaf words)) left words made partly less found begins within is told_here
           (omega arith) (omega arith) (λ ends_inside. let enough = there.node.least ends_inside in omega arith);
-      largest = subst (λ (b : Bool). gap ≡ gap_of b left.start (items_of b made)) (sym leafless) gap_here;
+      largest = subst (λ (b : Bool). gap ≡ gap_of b left.start (node_items b made)) (sym leafless) gap_here;
     }
 
 -- where there is an answer, it tells these three

@@ -7,14 +7,14 @@ use Rattle.std.specs.List.Sorted.{IsPermutation}
 use Rattle.std.proofs.lemmas.List.Sorted.{sum_by-IsPermutation, length_permutation}
 use Rattle.mm_types.specs.declared.slot.Row.{Row}
 use Rattle.maple_node.specs.declared.item.NodeItem.{NodeItem}
-use Rattle.maple_node.specs.Nodes.{words_of}
-use Rattle.maple_node.specs.Levels.{times}
+use Rattle.maple_node.specs.Nodes.{words_of_items}
+use Rattle.maple_node.specs.Levels.{times_among}
 use Rattle.maple_node.proofs.Frames.{times-append}
 use Rattle.node_slots.specs.declared.view.NodeView.{NodeView}
 use Rattle.node_slots.specs.declared.seats.NodeWriter.{NodeWriter}
 use Rattle.node_slots.specs.Views.{fill_at}
 use Rattle.node_slots.specs.Kept.{times_gone}
-use Rattle.node_slots.specs.Seats.{sight, writer_state, row_count, free_of, left_of, is_present, is_waiting, is_kept, is_taken, StaysAt}
+use Rattle.node_slots.specs.Seats.{node_sight, writer_state, row_count, free_of, retired_rows, is_present, is_waiting, is_kept, is_taken_row, StaysAt}
 use Rattle.node_slots.proofs.Listing.{kept_from}
 use Rattle.node_slots.proofs.Writers.{writer_kept, writer_taken, times_same}
 use Rattle.maple_write.specs.Internal.Tables.{table_at, gone}
@@ -25,7 +25,7 @@ abbrev pub with_words : NodeView → List (List ℕ) → NodeView
 with_words view words = record view { known = record view.known { writer_state = record view.known.writer_state { words = words } } }
 
 -- a writer that nothing was changed of, or that was changed twice
-pub fills_none : (old new : NodeWriter) → sight new ≡ sight old → ((row : ℕ) → is_waiting new row ≡ is_waiting old row) → StaysAt old new
+pub fills_none : (old new : NodeWriter) → node_sight new ≡ node_sight old → ((row : ℕ) → is_waiting new row ≡ is_waiting old row) → StaysAt old new
     → FillsRows old new
 fills_none old new same waits table = record {
   seen = ap (λ (v : NodeView). with_words v (writer_state new).words) same;
@@ -55,7 +55,7 @@ few_rows writer =
     omega arith
 
 -- a row that was taken is one of the table
-pub taken_there : (writer : NodeWriter) (row : ℕ) → is_taken writer row ≡ true → row < length (writer_state writer).words
+pub taken_there : (writer : NodeWriter) (row : ℕ) → is_taken_row writer row ≡ true → row < length (writer_state writer).words
 taken_there writer row is =
     let parts = writer_taken writer row is in
     let within = parts.0 in
@@ -68,10 +68,10 @@ taken_there writer row is =
 gone_same : (writer : NodeWriter) (row : ℕ) → gone (table_at writer) row ≡ times_gone writer.free.items writer.left.items row
 gone_same writer row =
     let free = times_same row (free_of writer) in
-    let left = times_same row (left_of writer) in
+    let left = times_same row (retired_rows writer) in
     omega arith
 
-pub once_free : (writer : NodeWriter) (row : ℕ) → times row (free_of writer) ≤ 1
+pub once_free : (writer : NodeWriter) (row : ℕ) → times_among row (free_of writer) ≤ 1
 once_free writer row =
     let same = gone_same writer row in
     let once = writer.rows.once row in
@@ -132,17 +132,17 @@ kept_counts writer row =
 -- a row more was left: it is free at once, or with those that were left
 pub left_more : (old new : NodeWriter) (row other : ℕ)
     → free_of new ≡ (if is_present old row then free_of old else free_of old ++ row ∷ [])
-    → left_of new ≡ (if is_present old row then left_of old ++ row ∷ [] else left_of old)
-    → gone (table_at new) other ≡ gone (table_at old) other + times other (row ∷ [])
+    → retired_rows new ≡ (if is_present old row then retired_rows old ++ row ∷ [] else retired_rows old)
+    → gone (table_at new) other ≡ gone (table_at old) other + times_among other (row ∷ [])
 left_more old new row other free left = go (is_present old row) free left where
   go : (present : Bool) → free_of new ≡ (if present then free_of old else free_of old ++ row ∷ [])
-      → left_of new ≡ (if present then left_of old ++ row ∷ [] else left_of old)
-      → gone (table_at new) other ≡ gone (table_at old) other + times other (row ∷ [])
+      → retired_rows new ≡ (if present then retired_rows old ++ row ∷ [] else retired_rows old)
+      → gone (table_at new) other ≡ gone (table_at old) other + times_among other (row ∷ [])
   go true free left =
-      let a = ap (times other) free in let b = ap (times other) left in
-      let d = times-append other (left_of old) (row ∷ []) in omega arith
+      let a = ap (times_among other) free in let b = ap (times_among other) left in
+      let d = times-append other (retired_rows old) (row ∷ []) in omega arith
   go false free left =
-      let a = ap (times other) free in let b = ap (times other) left in
+      let a = ap (times_among other) free in let b = ap (times_among other) left in
       let d = times-append other (free_of old) (row ∷ []) in omega arith
 
 pub free_more : (old new : NodeWriter) (row : ℕ) → free_of new ≡ (if is_present old row then free_of old else free_of old ++ row ∷ [])
@@ -153,19 +153,19 @@ free_more old new row free = go (is_present old row) free where
   go false free = let a = ap (λ (xs : List ℕ). length xs) free in let d = length-append (free_of old) (row ∷ []) in omega arith
 
 -- what a row that was taken and filled has
-pub filled_words : (old taken filled : NodeWriter) (row told : ℕ) (words : List ℕ) (leaf : Bool) (items : List NodeItem) → sight taken ≡ sight old
-    → sight filled ≡ fill_at (sight taken) row words → words ≡ words_of leaf items → told ≡ row
-    → (writer_state filled).words ≡ set (writer_state old).words told (words_of leaf items)
+pub filled_words : (old taken filled : NodeWriter) (row told : ℕ) (words : List ℕ) (leaf : Bool) (items : List NodeItem) → node_sight taken ≡ node_sight old
+    → node_sight filled ≡ fill_at (node_sight taken) row words → words ≡ words_of_items leaf items → told ≡ row
+    → (writer_state filled).words ≡ set (writer_state old).words told (words_of_items leaf items)
 filled_words old taken filled row told words leaf items seen fills are is =
     ap (λ (v : NodeView). v.known.writer_state.words) fills
     ∙ ap (λ (v : NodeView). set v.known.writer_state.words row words) seen
     ∙ ap (λ (ws : List ℕ). set (writer_state old).words row ws) are
-    ∙ ap (λ (r : ℕ). set (writer_state old).words r (words_of leaf items)) (sym is)
+    ∙ ap (λ (r : ℕ). set (writer_state old).words r (words_of_items leaf items)) (sym is)
 
-pub taken_row : (old taken : NodeWriter) (found : Option Row) (row : Row) → found ≡ Some row → IfSome found (λ r. is_taken taken r.0 ≡ true)
-    → sight taken ≡ sight old → row.0 < length (writer_state old).words
+pub taken_row : (old taken : NodeWriter) (found : Option Row) (row : Row) → found ≡ Some row → IfSome found (λ r. is_taken_row taken r.0 ≡ true)
+    → node_sight taken ≡ node_sight old → row.0 < length (writer_state old).words
 taken_row old taken found row is some seen =
-    let here : is_taken taken row.0 ≡ true = subst (λ (o : Option Row). IfSome o (λ r. is_taken taken r.0 ≡ true)) is some in
+    let here : is_taken_row taken row.0 ≡ true = subst (λ (o : Option Row). IfSome o (λ r. is_taken_row taken r.0 ≡ true)) is some in
     let within = taken_there taken row.0 here in
     let same = ap (λ (v : NodeView). length v.known.writer_state.words) seen in
     omega arith
@@ -173,7 +173,7 @@ taken_row old taken found row is some seen =
 -- and it is free no more: as often as before it and the free rows have each row, and there is one free row less
 pub record TakenFrom (rows : List ℕ) (row : ℕ) (rest : List ℕ) : Type 0 where
   pub fewer : length rows ≡ length rest + 1
-  pub times_are : (other : ℕ) → times other rows ≡ times other (row ∷ rest)
+  pub times_are : (other : ℕ) → times_among other rows ≡ times_among other (row ∷ rest)
 
 pub taken_moved : (rows rest rest' : List ℕ) (found : Option Row) (row : Row) (none : Type 0) → found ≡ Some row
     → MatchOption found none (λ r. IsPermutation rows (r.0 ∷ rest)) → rest' ≡ rest → TakenFrom rows row.0 rest'

@@ -5,9 +5,9 @@ ghost use Rattle.maple_node.specs.Trees.{Tree, IsLayout, entries_of, tree_rows};
 ghost use Rattle.node_slots.specs.declared.tree.Tree.{Tree as View};
 ghost use Rattle.node_slots.specs.declared.view.Size.{Size};
 ghost use Rattle.node_slots.specs.declared.seats.NodeWriter.{NodeWriter};
-ghost use Rattle.node_slots.specs.Views.{opened_view};
+ghost use Rattle.node_slots.specs.Views.{opened_node_view};
 ghost use Rattle.node_slots.specs.Opening.{IsFreeFrom};
-ghost use Rattle.node_slots.specs.Seats.{sight, free_of, left_of};
+ghost use Rattle.node_slots.specs.Seats.{node_sight, free_of, retired_rows};
 ghost use Rattle.node_slots.specs.Built.{IsBlank};
 
 /// A tree has at most two rows for nine entries, and one more for each level; and each level more takes four times as many
@@ -21,7 +21,7 @@ pub fn sizes_of_trees()
 
 /// The writer of a new table has tree 0, and a view of row 0 at height 1 is one from which stores can begin.
 pub fn new_trees_are_blank()
-    ensures { (writer : NodeWriter) (tree : View) (size : Size) (readers : ℕ) → sight writer ≡ opened_view size readers
-        → IsFreeFrom 1 size.rows (free_of writer) → left_of writer ≡ [] → tree.root.0 ≡ 0 → tree.height ≡ 1 → 0 < tree.limit.0
+    ensures { (writer : NodeWriter) (tree : View) (size : Size) (readers : ℕ) → node_sight writer ≡ opened_node_view size readers
+        → IsFreeFrom 1 size.rows (free_of writer) → retired_rows writer ≡ [] → tree.root.0 ≡ 0 → tree.height ≡ 1 → 0 < tree.limit.0
         → IsBlank writer tree }
 {}

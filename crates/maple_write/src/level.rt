@@ -2,10 +2,10 @@
 
 ghost use Rattle.std.specs.Prelude.{◌≡◌, ◌≢◌, ◌<◌, ◌≤◌, ◌+◌, ◌-◌, true, false, Some, [], ◌++◌, length, IfSome, IfNone};
 ghost use Rattle.maple_node.specs.declared.item.NodeItem.{NodeItem};
-ghost use Rattle.maple_node.specs.Nodes.{items_of, least, end_of, gap_of};
-ghost use Rattle.maple_node.specs.Levels.{is_leaf, read, item_at};
+ghost use Rattle.maple_node.specs.Nodes.{node_items, least_items, items_end, gap_of};
+ghost use Rattle.maple_node.specs.Levels.{is_leaf, items_at, item_at};
 ghost use Rattle.maple_node.specs.Splices.{ending_by, ending_after};
-ghost use Rattle.maple_node.specs.Padding.{padded};
+ghost use Rattle.maple_node.specs.Padding.{padded_node};
 ghost use Rattle.node_slots.specs.Seats.{row_count};
 ghost use Rattle.node_slots.specs.Built.{words_at};
 ghost use Rattle.maple_write.specs.Internal.Tables.{table_at, rows_between, AreInUse, LeavesRows};
@@ -34,7 +34,7 @@ pub(crate) fn leave_block(writer: &mut NodeWriter, descent: &Descent, level: u32
     requires limit { span.hi ≤ descent.now.tree.top.end }
     requires tower { IsUpper (words_at writer.old) descent.now.tree level }
     requires descent { IsDescent (words_at writer.old) level descent.now }
-    requires edge { end_of 0 (ending_by span.hi (old_level (table_at writer.old) descent.now.tree level)) ≡ span.hi }
+    requires edge { items_end 0 (ending_by span.hi (old_level (table_at writer.old) descent.now.tree level)) ≡ span.hi }
     requires apart { AreInUse writer.old (rows_between span.lo span.hi (old_level (table_at writer.old) descent.now.tree level)) }
     ensures { LeavesRows writer.old writer.new (rows_between span.lo span.hi (old_level (table_at writer.old) descent.now.tree level)) }
 {
@@ -65,8 +65,8 @@ fn joined(writer: &NodeWriter, state: &WriteState, left: u64, right: u64, items:
     requires right { right < row_count writer.now }
     requires few { length state.now.replacement.items.items ≤ 3 }
     requires none { items.old.items ≡ [] }
-    ensures { items.new.items ≡ ending_by state.now.lo (read (words_at writer.now) (is_leaf state.now.level) left)
-        ++ (state.now.replacement.items.items ++ ending_after state.now.replacement.end (read (words_at writer.now) (is_leaf state.now.level) right)) }
+    ensures { items.new.items ≡ ending_by state.now.lo (items_at (words_at writer.now) (is_leaf state.now.level) left)
+        ++ (state.now.replacement.items.items ++ ending_after state.now.replacement.end (items_at (words_at writer.now) (is_leaf state.now.level) right)) }
 {
     let leaf = state.level == 0;
     push_part(items, Part::EndingBy(state.lo), leaf, words(writer, left));
@@ -122,7 +122,7 @@ fn rebalanced(writer: &NodeWriter, state: &WriteState, items: &mut ItemList) -> 
     requires below { state.now.level < state.now.descent.now.tree.height }
     requires none { items.old.items ≡ [] }
     ensures cut { Cut (table_at writer.now) (level_in state.now) result.begin result.end items.new.items }
-    ensures least { result.end < state.now.descent.now.tree.top.end → least (is_leaf state.now.level) ≤ length items.new.items }
+    ensures least { result.end < state.now.descent.now.tree.top.end → least_items (is_leaf state.now.level) ≤ length items.new.items }
 {
     let leaf = state.level == 0;
     let mut edges = cut(writer, state, items);
@@ -165,7 +165,7 @@ fn renewed(writer: &NodeWriter, state: &WriteState, left: Place, made: &mut Node
     requires below { state.now.level < state.now.descent.now.tree.height }
     requires left { HasPage (words_at writer.now) state.now.descent.now.tree (state.now.level + 1) state.now.lo left }
     requires none { made.old ≡ [] }
-    ensures { result ≡ true → IsRenewed (table_at writer.now) (level_in state.now) left (padded made.new) }
+    ensures { result ≡ true → IsRenewed (table_at writer.now) (level_in state.now) left (padded_node made.new) }
 {
     if left.item.end < state.replacement.end {
         return false;
@@ -204,8 +204,8 @@ fn swapped(
     requires left { HasPage (words_at writer.now) state.now.descent.now.tree (state.now.level + 1) state.now.lo left }
     requires words { words.old ≡ words_at writer.now left.item.word }
     ensures renewed { IfSome result (λ gap. IsRenewed (table_at writer.now) (level_in state.now) left words.new) }
-    ensures gap { IfSome result (λ gap. gap ≡ gap_of (is_leaf state.now.level) left.start (items_of (is_leaf state.now.level) words.new)) }
-    ensures none { IfNone result ((child : NodeItem) → item_at state.now.lo (items_of false words.old) ≡ Some child → child.end ≢ state.now.replacement.end) }
+    ensures gap { IfSome result (λ gap. gap ≡ gap_of (is_leaf state.now.level) left.start (node_items (is_leaf state.now.level) words.new)) }
+    ensures none { IfNone result ((child : NodeItem) → item_at state.now.lo (node_items false words.old) ≡ Some child → child.end ≢ state.now.replacement.end) }
 {
     if left.item.end < state.replacement.end {
         return None;
@@ -229,7 +229,7 @@ fn rebuild_by_words(
     requires writing { IsWriting writer.old state.old }
     requires below { state.old.level < state.old.descent.now.tree.height }
     requires renewed { IsRenewed (table_at writer.old) (level_in state.old) left words.now }
-    requires gap { gap ≡ gap_of (is_leaf state.old.level) left.start (items_of (is_leaf state.old.level) words.now) }
+    requires gap { gap ≡ gap_of (is_leaf state.old.level) left.start (node_items (is_leaf state.old.level) words.now) }
     requires left { HasPage (words_at writer.old) state.old.descent.now.tree (state.old.level + 1) state.old.lo left }
     requires there { left.item.word < row_count writer.old }
     ensures { RebuildsLevel writer.old writer.new state.old state.new }

@@ -1,9 +1,9 @@
 //! Nodes in the rows of the writer's table: how one is read and made.
 
 ghost use Rattle.std.specs.Prelude.{◌≡◌, ◌<◌, ◌≤◌, ◌+◌, ◌*◌, ℕ, ◌∷◌, length, slice_set};
-ghost use Rattle.maple_node.specs.Nodes.{words_of, items_of, most, least, end_of, gap_of, Ascends, IsPlain};
-ghost use Rattle.maple_node.specs.Levels.{read, below, AllFrom, IsNode, times};
-ghost use Rattle.node_slots.specs.Seats.{writer_state, row_count, free_of, left_of};
+ghost use Rattle.maple_node.specs.Nodes.{words_of_items, node_items, most, least_items, items_end, gap_of, Ascends, KeepsNoGap};
+ghost use Rattle.maple_node.specs.Levels.{items_at, below, AllFrom, IsNode, times_among};
+ghost use Rattle.node_slots.specs.Seats.{writer_state, row_count, free_of, retired_rows};
 ghost use Rattle.node_slots.specs.Built.{words_at};
 ghost use Rattle.maple_write.specs.Internal.Tables.{rows_in};
 ghost use Rattle.maple_write.specs.Tables.{FillsRows};
@@ -47,21 +47,21 @@ fn put_words(
     gap: u64,
 ) -> NodeItem
     requires free { 0 < length (free_of writer.old) }
-    requires some { 1 ≤ length (items_of leaf words.now) }
-    requires most { length (items_of leaf words.now) ≤ most leaf }
-    requires ascends { Ascends start (items_of leaf words.now) }
-    requires end { end ≡ end_of start (items_of leaf words.now) }
-    requires gap { gap ≡ gap_of leaf start (items_of leaf words.now) }
-    requires whole { words.now ≡ words_of leaf (items_of leaf words.now) }
+    requires some { 1 ≤ length (node_items leaf words.now) }
+    requires most { length (node_items leaf words.now) ≤ most leaf }
+    requires ascends { Ascends start (node_items leaf words.now) }
+    requires end { end ≡ items_end start (node_items leaf words.now) }
+    requires gap { gap ≡ gap_of leaf start (node_items leaf words.now) }
+    requires whole { words.now ≡ words_of_items leaf (node_items leaf words.now) }
     ensures same { FillsRows writer.old writer.new }
-    ensures node { (limit : ℕ) → (end_of start (items_of leaf words.now) < limit → least leaf ≤ length (items_of leaf words.now))
+    ensures node { (limit : ℕ) → (items_end start (node_items leaf words.now) < limit → least_items leaf ≤ length (node_items leaf words.now))
         → IsNode (words_at writer.new) leaf limit start result }
-    ensures items { read (words_at writer.new) leaf result.word ≡ items_of leaf words.now }
+    ensures items { items_at (words_at writer.new) leaf result.word ≡ node_items leaf words.now }
     ensures until { result.end ≡ end }
     ensures words { (writer_state writer.new).words ≡ slice_set (writer_state writer.old).words result.word words.now }
     ensures free { length (free_of writer.old) ≡ length (free_of writer.new) + 1 }
-    ensures taken { (row : ℕ) → times row (free_of writer.old) ≡ times row (result.word ∷ free_of writer.new) }
-    ensures left { left_of writer.new ≡ left_of writer.old }
+    ensures taken { (row : ℕ) → times_among row (free_of writer.old) ≡ times_among row (result.word ∷ free_of writer.new) }
+    ensures left { retired_rows writer.new ≡ retired_rows writer.old }
 {
     let row = writer.take_row_for(old).unwrap();
     writer.fill(row, words);
@@ -84,16 +84,16 @@ pub(crate) fn put(
     requires some { 1 ≤ length items.now }
     requires most { length items.now ≤ most leaf }
     requires ascends { Ascends start items.now }
-    requires plain { IsPlain leaf items.now }
+    requires plain { KeepsNoGap leaf items.now }
     ensures same { FillsRows writer.old writer.new }
-    ensures node { (limit : ℕ) → (end_of start items.now < limit → least leaf ≤ length items.now)
+    ensures node { (limit : ℕ) → (items_end start items.now < limit → least_items leaf ≤ length items.now)
         → IsNode (words_at writer.new) leaf limit start result }
-    ensures items { read (words_at writer.new) leaf result.word ≡ items.now }
-    ensures until { result.end ≡ end_of start items.now }
-    ensures words { (writer_state writer.new).words ≡ slice_set (writer_state writer.old).words result.word (words_of leaf items.now) }
+    ensures items { items_at (words_at writer.new) leaf result.word ≡ items.now }
+    ensures until { result.end ≡ items_end start items.now }
+    ensures words { (writer_state writer.new).words ≡ slice_set (writer_state writer.old).words result.word (words_of_items leaf items.now) }
     ensures free { length (free_of writer.old) ≡ length (free_of writer.new) + 1 }
-    ensures taken { (row : ℕ) → times row (free_of writer.old) ≡ times row (result.word ∷ free_of writer.new) }
-    ensures left { left_of writer.new ≡ left_of writer.old }
+    ensures taken { (row : ℕ) → times_among row (free_of writer.old) ≡ times_among row (result.word ∷ free_of writer.new) }
+    ensures left { retired_rows writer.new ≡ retired_rows writer.old }
 {
     let words = node_words(leaf, items);
     let end = items[items.len() - 1].end;
@@ -112,21 +112,21 @@ pub(crate) fn pack_words(
     gap: u64,
 ) -> FewItems
     requires free { 0 < length (free_of writer.old) }
-    requires some { 1 ≤ length (items_of leaf words.now) }
-    requires most { length (items_of leaf words.now) ≤ most leaf }
-    requires ascends { Ascends start (items_of leaf words.now) }
-    requires end { end ≡ end_of start (items_of leaf words.now) }
-    requires gap { gap ≡ gap_of leaf start (items_of leaf words.now) }
-    requires whole { words.now ≡ words_of leaf (items_of leaf words.now) }
+    requires some { 1 ≤ length (node_items leaf words.now) }
+    requires most { length (node_items leaf words.now) ≤ most leaf }
+    requires ascends { Ascends start (node_items leaf words.now) }
+    requires end { end ≡ items_end start (node_items leaf words.now) }
+    requires gap { gap ≡ gap_of leaf start (node_items leaf words.now) }
+    requires whole { words.now ≡ words_of_items leaf (node_items leaf words.now) }
     ensures same { FillsRows writer.old writer.new }
-    ensures nodes { (limit : ℕ) → (end_of start (items_of leaf words.now) < limit → least leaf ≤ length (items_of leaf words.now))
+    ensures nodes { (limit : ℕ) → (items_end start (node_items leaf words.now) < limit → least_items leaf ≤ length (node_items leaf words.now))
         → AllFrom (IsNode (words_at writer.new) leaf limit) start result.items }
-    ensures below { below (words_at writer.new) leaf result.items ≡ items_of leaf words.now }
+    ensures below { below (words_at writer.new) leaf result.items ≡ node_items leaf words.now }
     ensures one { length result.items ≡ 1 }
-    ensures kept { (row : ℕ) → times row (free_of writer.old) ≡ 0 → words_at writer.new row ≡ words_at writer.old row }
-    ensures taken { (row : ℕ) → times row (free_of writer.old) ≡ times row (free_of writer.new) + times row (rows_in result.items) }
+    ensures kept { (row : ℕ) → times_among row (free_of writer.old) ≡ 0 → words_at writer.new row ≡ words_at writer.old row }
+    ensures taken { (row : ℕ) → times_among row (free_of writer.old) ≡ times_among row (free_of writer.new) + times_among row (rows_in result.items) }
     ensures free { length (free_of writer.old) ≡ length (free_of writer.new) + length result.items }
-    ensures left { left_of writer.new ≡ left_of writer.old }
+    ensures left { retired_rows writer.new ≡ retired_rows writer.old }
 {
     let mut packed = FewItems::new();
     let node = put_words(writer, old, leaf, start, end, words, gap);
@@ -147,17 +147,17 @@ pub(crate) fn pack(
     requires some { 1 ≤ length items.now }
     requires few { length items.now ≤ 3 * most leaf }
     requires ascends { Ascends start items.now }
-    requires plain { IsPlain leaf items.now }
+    requires plain { KeepsNoGap leaf items.now }
     ensures same { FillsRows writer.old writer.new }
-    ensures nodes { (limit : ℕ) → (end_of start items.now < limit → least leaf ≤ length items.now)
+    ensures nodes { (limit : ℕ) → (items_end start items.now < limit → least_items leaf ≤ length items.now)
         → AllFrom (IsNode (words_at writer.new) leaf limit) start result.items }
     ensures below { below (words_at writer.new) leaf result.items ≡ items.now }
     ensures some { 1 ≤ length result.items }
     ensures few { length result.items ≤ 3 }
-    ensures kept { (row : ℕ) → times row (free_of writer.old) ≡ 0 → words_at writer.new row ≡ words_at writer.old row }
-    ensures taken { (row : ℕ) → times row (free_of writer.old) ≡ times row (free_of writer.new) + times row (rows_in result.items) }
+    ensures kept { (row : ℕ) → times_among row (free_of writer.old) ≡ 0 → words_at writer.new row ≡ words_at writer.old row }
+    ensures taken { (row : ℕ) → times_among row (free_of writer.old) ≡ times_among row (free_of writer.new) + times_among row (rows_in result.items) }
     ensures free { length (free_of writer.old) ≡ length (free_of writer.new) + length result.items }
-    ensures left { left_of writer.new ≡ left_of writer.old }
+    ensures left { retired_rows writer.new ≡ retired_rows writer.old }
 {
     let mut packed = FewItems::new();
     let mut begin = start;

@@ -6,11 +6,11 @@ ghost use Rattle.maple_node.specs.Words.{slot_word};
 ghost use Rattle.maple_node.specs.Splices.{overwrite, widened_lo, widened_hi};
 ghost use Rattle.maple_node.specs.Pairs.{overwritten};
 ghost use Rattle.node_slots.specs.Views.{publish_at};
-ghost use Rattle.node_slots.specs.Seats.{Writes, sight, writer_state, row_count, free_of, left_of, is_kept, next_root};
+ghost use Rattle.node_slots.specs.Seats.{WritesNodeTable, node_sight, writer_state, row_count, free_of, retired_rows, is_kept, next_root};
 ghost use Rattle.node_slots.specs.Built.{words_at, built, IsBuilt, IsWriters, pairs_now};
 ghost use Rattle.maple_write.specs.Internal.Tables.{table_at};
 ghost use Rattle.maple_write.specs.Tables.{FillsRows};
-ghost use Rattle.maple_write.specs.Internal.Stores.{IsShaped, IsWhole, Finds, tree_under, all_gap, IsDescent};
+ghost use Rattle.maple_write.specs.Internal.Stores.{IsShaped, IsWholeTree, FindsTree, tree_under, all_gap, IsDescent};
 
 use crate::descent::{Descent, LEVELS, NO_PLACE, find};
 use crate::rows::{Rooted, put, words};
@@ -31,12 +31,12 @@ pub fn store(
     span: Span,
     slot: Option<Slot>,
 )
-    requires table { Writes writer.old nodes.now }
+    requires table { WritesNodeTable writer.old nodes.now }
     requires tree { IsWriters writer.old tree.old }
     requires free { 4 * tree.old.height + 4 ≤ length (free_of writer.old) }
     requires limit { span.hi ≤ tree.old.limit.0 }
-    requires slot { slot_word slot ≤ (sight writer.old).size.slots }
-    ensures table { Writes writer.new nodes.now }
+    requires slot { slot_word slot ≤ (node_sight writer.old).size.slots }
+    ensures table { WritesNodeTable writer.new nodes.now }
     ensures tree { IsWriters writer.new tree.new }
     ensures built { span.lo < span.hi → IsBuilt writer.new tree.new }
     ensures pairs { span.lo < span.hi → pairs_now writer.new tree.new
@@ -58,13 +58,13 @@ pub fn store(
 
 /// Publishes the writer's tree: it is the present one, with the next number.
 pub fn publish_tree(nodes: &NodeTable, writer: &mut NodeWriter, tree: &Tree)
-    requires table { Writes writer.old nodes.now }
+    requires table { WritesNodeTable writer.old nodes.now }
     requires built { IsBuilt writer.old tree.now }
     requires height { tree.now.height ≤ 9 }
     requires number { (writer_state writer.old).tree.number < 2 ^ 40 - 1 }
-    ensures table { Writes writer.new nodes.now }
-    ensures view { sight writer.new ≡ publish_at (sight writer.old) (next_root writer.old tree.now.root.0 tree.now.height) }
-    ensures lists { (free_of writer.new ≡ free_of writer.old) × (left_of writer.new ≡ left_of writer.old) }
+    ensures table { WritesNodeTable writer.new nodes.now }
+    ensures view { node_sight writer.new ≡ publish_at (node_sight writer.old) (next_root writer.old tree.now.root.0 tree.now.height) }
+    ensures lists { (free_of writer.new ≡ free_of writer.old) × (retired_rows writer.new ≡ retired_rows writer.old) }
     ensures still { IsBuilt writer.new tree.now }
 {
     nodes.publish(writer, tree.root, tree.height);
@@ -131,14 +131,14 @@ fn gap_end(writer: &NodeWriter, descent: &Descent, page: u64) -> u64
 
 /// A store into a tree with entries. A gap takes in the gaps beside it.
 fn overwrite(writer: &mut NodeWriter, old: Rooted, span: Span, word: u64) -> Rooted
-    requires whole { IsWhole (table_at writer.old) (sight writer.old).size.slots (tree_under old) }
+    requires whole { IsWholeTree (table_at writer.old) (node_sight writer.old).size.slots (tree_under old) }
     requires free { 4 * old.height + 4 ≤ length (free_of writer.old) }
     requires some { span.lo < span.hi }
     requires limit { span.hi ≤ old.top.end }
-    requires word { word ≤ (sight writer.old).size.slots }
+    requires word { word ≤ (node_sight writer.old).size.slots }
     requires fits { old.height < 2 ^ 31 }
     ensures same { FillsRows writer.old writer.new }
-    ensures whole { IsWhole (table_at writer.new) (sight writer.old).size.slots (tree_under result) }
+    ensures whole { IsWholeTree (table_at writer.new) (node_sight writer.old).size.slots (tree_under result) }
     ensures pairs { pairs_of (words_at writer.new) (tree_under result)
         ≡ overwritten span.lo span.hi word (pairs_of (words_at writer.old) (tree_under old)) }
     ensures limit { result.top.end ≡ old.top.end }
@@ -210,9 +210,9 @@ fn store_first(writer: &mut NodeWriter, limit: u64, span: Span, word: u64) -> Ro
     requires free { 1 ≤ length (free_of writer.old) }
     requires some { span.lo < span.hi }
     requires limit { span.hi ≤ limit }
-    requires word { word ≤ (sight writer.old).size.slots }
+    requires word { word ≤ (node_sight writer.old).size.slots }
     ensures same { FillsRows writer.old writer.new }
-    ensures whole { IsWhole (table_at writer.new) (sight writer.old).size.slots (tree_under result) }
+    ensures whole { IsWholeTree (table_at writer.new) (node_sight writer.old).size.slots (tree_under result) }
     ensures pairs { pairs_of (words_at writer.new) (tree_under result) ≡ overwritten span.lo span.hi word [] }
     ensures limit { result.top.end ≡ limit }
     ensures height { result.height ≡ 1 }
@@ -226,14 +226,14 @@ fn store_first(writer: &mut NodeWriter, limit: u64, span: Span, word: u64) -> Ro
 
 /// A store into the tree that the writer found: one with entries, or tree 0.
 fn stored(writer: &mut NodeWriter, old: Rooted, limit: u64, span: Span, word: u64) -> Rooted
-    requires finds { Finds writer.old old limit }
+    requires finds { FindsTree writer.old old limit }
     requires free { 4 * old.height + 4 ≤ length (free_of writer.old) }
     requires some { span.lo < span.hi }
     requires limit { span.hi ≤ limit }
-    requires word { word ≤ (sight writer.old).size.slots }
+    requires word { word ≤ (node_sight writer.old).size.slots }
     requires fits { old.height < 2 ^ 31 }
     ensures same { FillsRows writer.old writer.new }
-    ensures whole { IsWhole (table_at writer.new) (sight writer.old).size.slots (tree_under result) }
+    ensures whole { IsWholeTree (table_at writer.new) (node_sight writer.old).size.slots (tree_under result) }
     ensures pairs { pairs_of (words_at writer.new) (tree_under result)
         ≡ overwritten span.lo span.hi word (pairs_of (words_at writer.old) (tree_under old)) }
     ensures limit { result.top.end ≡ limit }

@@ -1,8 +1,8 @@
 //! A whole tree with one entry more: its levels from the leaves up, and its root.
 
 ghost use Rattle.std.specs.Prelude.{◌≡◌, ◌≢◌, ◌⊎◌, ◌<◌, ◌≤◌, ◌+◌, ◌*◌, ◌^◌, true, false, Some, [], ◌∷◌, ◌++◌, length};
-ghost use Rattle.maple_node.specs.Nodes.{end_of, Ascends};
-ghost use Rattle.maple_node.specs.Levels.{below, level_of, IsTower, rows_of};
+ghost use Rattle.maple_node.specs.Nodes.{items_end, Ascends};
+ghost use Rattle.maple_node.specs.Levels.{below, level_of, IsTower, rows_below};
 ghost use Rattle.maple_node.specs.Trees.{entries_of};
 ghost use Rattle.maple_node.specs.Splices.{piece_of, overwrite};
 ghost use Rattle.node_slots.specs.Seats.{free_of};
@@ -74,18 +74,18 @@ fn leave_upper(writer: &mut NodeWriter, state: &WriteState)
 /// The tree under the items of a level, which have all pages: under the only one, or under a new root that lists them.
 fn new_root(writer: &mut NodeWriter, level: u32, items: &FewItems) -> Rooted
     requires tall { 1 ≤ level }
-    requires tower { IsTower (words_at writer.old) (end_of 0 items.now.items) 0 level items.now.items }
+    requires tower { IsTower (words_at writer.old) (items_end 0 items.now.items) 0 level items.now.items }
     requires ascends { Ascends 0 items.now.items }
     requires some { 1 ≤ length items.now.items }
     requires few { length items.now.items ≤ 3 }
     requires wide { length items.now.items ≡ 1 → 2 ≤ level → 2 ≤ length (below (words_at writer.old) false items.now.items) }
-    requires stand { Stand (table_at writer.old) (rows_of (words_at writer.old) 0 level items.now.items) }
+    requires stand { Stand (table_at writer.old) (rows_below (words_at writer.old) 0 level items.now.items) }
     requires free { 1 ≤ length (free_of writer.old) }
     requires fits { level < 2 ^ 31 }
     ensures same { FillsRows writer.old writer.new }
     ensures shaped { IsShaped (table_at writer.new) (tree_under result) }
     ensures entries { entries_of (words_at writer.new) (tree_under result) ≡ level_of (words_at writer.old) 0 level items.now.items }
-    ensures limit { result.top.end ≡ end_of 0 items.now.items }
+    ensures limit { result.top.end ≡ items_end 0 items.now.items }
     ensures height { result.height ≤ level + 1 }
     ensures free { length (free_of writer.old) ≤ length (free_of writer.new) + 1 }
 {

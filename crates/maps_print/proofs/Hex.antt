@@ -3,7 +3,7 @@ use Rattle.std.proofs.Common.{◌≡◌, ℕ, zero, suc, ◌^◌, ◌-◌, ◌*�
 use Rattle.std.proofs.Math.Nat.{pow-suc}
 use Rattle.std.proofs.lemmas.Bool.Decides.{nat_tests}
 use Rattle.std.specs.Fmt.{digits, digits_onto, digit_glyph}
-use Rattle.mm_types.specs.MapsText.{Backing, hex, start_text, place_text}
+use Rattle.mm_types.specs.MapsText.{Backing, hex, page_text, place_text}
 
 -- what is written after the digits stays there
 onto_append : (k n : ℕ) (acc tail : List ℕ)
@@ -45,15 +45,15 @@ address_digits page some small =
     ∙ onto_append 61 page [] (codes "000") ∙ ap (λ text. text ++ codes "000") (onto_enough 60 63 page [] (omega arith) small)
 
 -- where a page that is not the first begins
-start_above : (page : ℕ) → 0 < page → page < 16 ^ 61 → start_text page ≡ hex 5 page ++ codes "000"
-unfolding start_text hex
+start_above : (page : ℕ) → 0 < page → page < 16 ^ 61 → page_text page ≡ hex 5 page ++ codes "000"
+unfolding page_text hex
 start_above page some small = let number = digits 16 false page in
     let zeros : 8 - length (number ++ codes "000") ≡ 5 - length number = simp length-append (omega arith) in
     rw (address_digits page some small) (rw zeros (sym (append_assoc (replicate (5 - length number) 48) number (codes "000"))))
 
 -- where a page begins, in bytes: its number, filled with zeros up to five digits, and three zeros
-pub start_parts : (page : ℕ) → page < 16 ^ 61 → start_text page ≡ hex 5 page ++ codes "000"
-unfolding start_text hex digits
+pub start_parts : (page : ℕ) → page < 16 ^ 61 → page_text page ≡ hex 5 page ++ codes "000"
+unfolding page_text hex digits
 start_parts zero small = refl
 start_parts (suc page) small = start_above (suc page) (omega arith) small
 

@@ -26,7 +26,9 @@ mod line;
 mod list;
 mod mapped;
 mod part;
+mod trimmed;
 
 pub use line::{print_line, push_line, push_range};
 pub use list::{print_list, push_list};
 pub use part::{push_decimal, push_hex};
+pub use trimmed::{push_trimmed, without_spaces_after};

@@ -9,10 +9,10 @@ use Rattle.text_lexer.specs.Lines.{input_limit, RawLine, lines_from, raw_lines}
 use Rattle.text_lexer.proofs.RawPieces.{lines_from-nil}
 use Rattle.maps_read.specs.declared.maps.MapsLine.{MapsLine}
 use Rattle.maps_read.specs.Maps.{maps_of}
-use Rattle.maps_read.specs.Query.{first_above, answered, query_text, query_answer}
+use Rattle.maps_read.specs.Query.{first_above, printed_for, query_text, query_answer}
 use Rattle.maps_read.proofs.Bytes.{maps_of-front, maps_within, count_is}
 
-was_read : (address : ℕ) (bytes text : List ℕ) (read : Result (List MapsLine) BadLine) → answered address bytes read ≡ Ok text
+was_read : (address : ℕ) (bytes text : List ℕ) (read : Result (List MapsLine) BadLine) → printed_for address bytes read ≡ Ok text
     → (lines : List MapsLine) × (read ≡ Ok lines)
 was_read address bytes text (Ok lines) e = (lines, refl)
 was_read address bytes text (Err first) e = absurd cc
@@ -26,7 +26,7 @@ query_answer-within address bytes text e =
 
 -- what bytes past the limit do: they are no part of an answer
 answered-same : (address : ℕ) (front bytes : List ℕ) (read : Result (List MapsLine) BadLine) → ((lines : List MapsLine) → read ≡ Ok lines → front ≡ bytes)
-    → answered address front read ≡ answered address bytes read
+    → printed_for address front read ≡ printed_for address bytes read
 answered-same address front bytes (Ok lines) same = ap (λ (bs : List ℕ). Ok (query_text bs (first_above address lines))) (same lines refl)
 answered-same address front bytes (Err first) same = refl
 
@@ -34,7 +34,7 @@ answered-same address front bytes (Err first) same = refl
 pub query_answer-front : (address : ℕ) (bytes : List ℕ) → query_answer address (take (input_limit + 1) bytes) ≡ query_answer address bytes
 unfolding query_answer
 query_answer-front address bytes =
-    ap (answered address (take (input_limit + 1) bytes)) (maps_of-front bytes)
+    ap (printed_for address (take (input_limit + 1) bytes)) (maps_of-front bytes)
     ∙ answered-same address (take (input_limit + 1) bytes) bytes (maps_of bytes)
     (λ lines read. take_all (input_limit + 1) bytes (omega (arith, maps_within bytes lines read)))
 

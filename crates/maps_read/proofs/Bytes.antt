@@ -10,29 +10,29 @@ use Rattle.text_lexer.proofs.FirstBad.{lines_leave-Err}
 use Rattle.text_lexer.proofs.LineTests.{text_within-past}
 use Rattle.maps_read.specs.declared.maps.MapsLine.{MapsLine}
 use Rattle.maps_read.specs.declared.reading.TheConstants.{MAPS_LINE_LIMIT}
-use Rattle.maps_read.specs.Laws.{AreRead, IsFirstBad}
-use Rattle.maps_read.specs.Maps.{IsMaps, next_line, after_line, maps_of}
+use Rattle.maps_read.specs.Laws.{AreRead, IsFirstBadMapsLine}
+use Rattle.maps_read.specs.Maps.{IsMaps, next_maps_line, after_maps_line, maps_of}
 use Rattle.maps_read.proofs.Ordered.{leaves, leaves_apart, no_lines}
 
 -- a maps text's first bad line
-pub maps_of-Err : (bytes : List ℕ) (first : BadLine) → maps_of bytes ≡ Err first → IsFirstBad bytes first
+pub maps_of-Err : (bytes : List ℕ) (first : BadLine) → maps_of bytes ≡ Err first → IsFirstBadMapsLine bytes first
 unfolding maps_of
-maps_of-Err bytes first e = lines_leave-Err after_line [] bytes first e
+maps_of-Err bytes first e = lines_leave-Err after_maps_line [] bytes first e
 
 -- the lines are limited
-after_line-limited : IsLimited input_limit after_line
-unfolding after_line next_line
+after_line-limited : IsLimited input_limit after_maps_line
+unfolding after_maps_line next_maps_line
 after_line-limited before line past = rw (text_within-past MAPS_LINE_LIMIT input_limit line past) refl
 
 -- so one byte more than the limit settles them
 pub maps_of-front : (bytes : List ℕ) → maps_of (take (input_limit + 1) bytes) ≡ maps_of bytes
 unfolding maps_of
-maps_of-front bytes = lines_leave-front input_limit after_line after_line-limited [] bytes
+maps_of-front bytes = lines_leave-front input_limit after_maps_line after_line-limited [] bytes
 
 -- and bytes with lines are within it
 pub maps_within : (bytes : List ℕ) (lines : List MapsLine) → maps_of bytes ≡ Ok lines → length bytes ≤ input_limit
 unfolding maps_of
-maps_within bytes lines e = lines_leave-within input_limit after_line after_line-limited [] lines bytes e
+maps_within bytes lines e = lines_leave-within input_limit after_maps_line after_line-limited [] lines bytes e
 
 -- each line that was read is that of its raw line
 pub maps_are_read : (bytes : List ℕ) (lines : List MapsLine) → maps_of bytes ≡ Ok lines → AreRead (raw_lines bytes) lines

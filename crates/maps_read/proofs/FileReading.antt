@@ -10,12 +10,12 @@ use Rattle.text_lexer.specs.declared.error.Cause.{Cause}
 use Rattle.text_lexer.specs.declared.error.Cause.TheVariants.{Header, Word, TooLong, NoEnd, Utf8}
 use Rattle.text_lexer.specs.Causes.{◌>>=◌, unless}
 use Rattle.text_lexer.specs.BadLines.{bad_line, at_line}
-use Rattle.trace_reader.specs.Grammar.{nothing, after_lines, lines_read, config_of, whole, trace_of}
-use Rattle.trace_reader.specs.Lines.{SoFar, with_limit, with_top, with_min, with_heap, has_descriptor, with_file, after_setting, with_line, with_one, after_words, after_line}
+use Rattle.trace_reader.specs.Grammar.{nothing, after_trace_lines, lines_read, config_of, whole_trace, trace_of}
+use Rattle.trace_reader.specs.Lines.{SoFar, with_limit, with_top, with_min, with_heap, has_descriptor, with_file, after_setting, with_line, with_one, after_words, after_trace_line}
 use Rattle.text_lexer.specs.Lines.{input_limit, raw_line, is_newline, is_longer_than, text_within}
 use Rattle.text_lexer.specs.Words.{is_comment, begins_with_digit, words_of, text_after_words}
-use Rattle.trace_reader.specs.Operations.{line_of}
-use Rattle.trace_reader.specs.Settings.{limit_of, bound_of, file_of}
+use Rattle.trace_reader.specs.Operations.{read_line}
+use Rattle.trace_reader.specs.Settings.{limit_of, bound_of, read_file}
 use Rattle.text_lexer.proofs.RawPieces.{lines_from-nil}
 use Rattle.trace_reader.proofs.LinesRead.{text_of-utf8, lines_from-text, lines_read-header}
 use Rattle.trace_reader.specs.LineTexts.{header}
@@ -61,9 +61,9 @@ none_unless : (answer : Option Cause) (so_far : SoFar) → so_far.files ≡ [] �
 none_unless None so_far none = none_ok so_far none
 none_unless (Some cause) so_far none = none_refused cause
 
-line_none : (number : ℕ) (first : List ℕ) (words : List (List ℕ)) → LeavesNone (line_of number first words >>= λ line. with_line nothing line)
+line_none : (number : ℕ) (first : List ℕ) (words : List (List ℕ)) → LeavesNone (read_line number first words >>= λ line. with_line nothing line)
 unfolding with_line with_one
-line_none number first words = none_bound (line_of number first words) (λ line. with_line nothing line) (λ line. none_unless _ (with_one nothing line) refl)
+line_none number first words = none_bound (read_line number first words) (λ line. with_line nothing line) (λ line. none_unless _ (with_one nothing line) refl)
 
 limit_none : (words : List (List ℕ)) → LeavesNone (with_limit nothing words)
 unfolding with_limit
@@ -103,13 +103,13 @@ module _ (so_far : SoFar) (file : FileRow) (before : so_far.lines ≡ []) (new :
       else (if bytes_eq first (codes "top") then with_top so_far words
       else (if bytes_eq first (codes "min") then with_min so_far words
       else (if bytes_eq first (codes "heap") then with_heap so_far words
-      else (if bytes_eq first (codes "file") then (file_of words (text_after_words 6 text) >>= λ row. with_file so_far row)
+      else (if bytes_eq first (codes "file") then (read_file words (text_after_words 6 text) >>= λ row. with_file so_far row)
       else Err Word)))))) before
       ∙ choice so_far file (bytes_eq first (codes "limit")) _ _ _ _ (never so_far file _ _ (limit_none words))
       (choice so_far file (bytes_eq first (codes "top")) _ _ _ _ (never so_far file _ _ (top_none words))
       (choice so_far file (bytes_eq first (codes "min")) _ _ _ _ (never so_far file _ _ (min_none words))
       (choice so_far file (bytes_eq first (codes "heap")) _ _ _ _ (never so_far file _ _ (heap_none words))
-      (choice so_far file (bytes_eq first (codes "file")) _ _ _ _ (file_adds (file_of words (text_after_words 6 text)))
+      (choice so_far file (bytes_eq first (codes "file")) _ _ _ _ (file_adds (read_file words (text_after_words 6 text)))
       (never so_far file _ _ (none_refused Word)))))) next is files
 
   words_add : (number : ℕ) (text : List ℕ) (words : List (List ℕ))
@@ -137,8 +137,8 @@ by_tests true utf8 text rest next e = absurd (cc e)
 by_tests false true text rest next e = (refl, refl, e)
 by_tests false false text rest next e = absurd (cc e)
 
-alone : (text : List ℕ) (next : SoFar) → after_line nothing (raw_line 2 11 text true) ≡ Ok next → IsAlone text next
-unfolding after_line text_within is_longer_than
+alone : (text : List ℕ) (next : SoFar) → after_trace_line nothing (raw_line 2 11 text true) ≡ Ok next → IsAlone text next
+unfolding after_trace_line text_within is_longer_than
 alone text next e =
     let parts = by_tests (nat_lt 4096 (length text) || nat_lt input_limit (11 + length text + 1)) (is_utf8 text) text
     (λ t. after_words nothing 2 t (words_of t)) next e in
@@ -147,9 +147,9 @@ alone text next e =
 -- a line that leaves this file behind nothing adds it to others, of which none has its descriptor
 line_adds : (so_far next : SoFar) (file : FileRow) (number start : ℕ) (text : List ℕ) → so_far.lines ≡ []
     → has_descriptor so_far.files file.fd ≡ false → length so_far.files < 1024 → 1 < number → start + length text + 1 ≤ input_limit
-    → after_line nothing (raw_line 2 11 text true) ≡ Ok next → next.files ≡ file ∷ []
-    → after_line so_far (raw_line number start text true) ≡ Ok (with_files so_far (file ∷ []))
-unfolding after_line
+    → after_trace_line nothing (raw_line 2 11 text true) ≡ Ok next → next.files ≡ file ∷ []
+    → after_trace_line so_far (raw_line number start text true) ≡ Ok (with_files so_far (file ∷ []))
+unfolding after_trace_line
 line_adds so_far next file number start text before new room later within is files =
     let found = alone text next is in
     let read = text_of-utf8 number start text found.utf8 found.short within in
@@ -159,11 +159,11 @@ line_adds so_far next file number start text before new room later within is fil
 -- what a line leaves that opens this file
 record LeavesFile (text : List ℕ) (file : FileRow) : Type 0 where
   next : SoFar
-  is : after_line nothing (raw_line 2 11 text true) ≡ Ok next
+  is : after_trace_line nothing (raw_line 2 11 text true) ≡ Ok next
   files : next.files ≡ file ∷ []
 
-left_by : (text : List ℕ) (file : FileRow) (left : Result SoFar Cause) → after_line nothing (raw_line 2 11 text true) ≡ left
-    → files_of (whole (at_line 2 left (λ next. Ok next))) ≡ file ∷ [] → LeavesFile text file
+left_by : (text : List ℕ) (file : FileRow) (left : Result SoFar Cause) → after_trace_line nothing (raw_line 2 11 text true) ≡ left
+    → files_of (whole_trace (at_line 2 left (λ next. Ok next))) ≡ file ∷ [] → LeavesFile text file
 unfolding config_of default_config
 left_by text file (Ok next) is files = record { next = next; is = is; files = files }
 left_by text file (Err cause) is files = absurd (cc files)
@@ -174,19 +174,19 @@ unfolding files_opened trace_of
 leaves text file single opened =
     let bytes = header ++ (text ++ codes "\n") in
     let some : nat_eq (length bytes) 0 ≡ false = ne_eqb (length bytes) 0 (λ none. omega arith) in
-    let read : lines_read bytes ≡ at_line 2 (after_line nothing (raw_line 2 11 text true)) (λ next. Ok next) =
-    lines_read-header (text ++ codes "\n") ∙ ap (after_lines nothing) (lines_from-text 2 11 text [] single)
-    ∙ ap (λ rest. at_line 2 (after_line nothing (raw_line 2 11 text true)) (λ next. after_lines next rest)) (lines_from-nil 3 (11 + length text + 1)) in
-    left_by text file (after_line nothing (raw_line 2 11 text true)) refl
-    (ap (λ r. files_of (whole r)) (sym read)
-    ∙ ap files_of (sym (cond-false (nat_eq (length bytes) 0) (Err (bad_line 1 Header)) (whole (lines_read bytes)) some))
+    let read : lines_read bytes ≡ at_line 2 (after_trace_line nothing (raw_line 2 11 text true)) (λ next. Ok next) =
+    lines_read-header (text ++ codes "\n") ∙ ap (after_trace_lines nothing) (lines_from-text 2 11 text [] single)
+    ∙ ap (λ rest. at_line 2 (after_trace_line nothing (raw_line 2 11 text true)) (λ next. after_trace_lines next rest)) (lines_from-nil 3 (11 + length text + 1)) in
+    left_by text file (after_trace_line nothing (raw_line 2 11 text true)) refl
+    (ap (λ r. files_of (whole_trace r)) (sym read)
+    ∙ ap files_of (sym (cond-false (nat_eq (length bytes) 0) (Err (bad_line 1 Header)) (whole_trace (lines_read bytes)) some))
     ∙ opened)
 
 -- a line that opens this file in a trace of it alone adds it to others, of which none has its descriptor
 pub opens_behind : (so_far : SoFar) (file : FileRow) (number start : ℕ) (text : List ℕ) → so_far.lines ≡ []
     → has_descriptor so_far.files file.fd ≡ false → length so_far.files < 1024 → 1 < number → start + length text + 1 ≤ input_limit
     → All (λ c. is_newline c ≡ false) text → files_opened (text ++ codes "\n") ≡ file ∷ []
-    → after_line so_far (raw_line number start text true) ≡ Ok (with_files so_far (file ∷ []))
+    → after_trace_line so_far (raw_line number start text true) ≡ Ok (with_files so_far (file ∷ []))
 opens_behind so_far file number start text before new room later within single opened =
     let left = leaves text file single opened in
     line_adds so_far left.next file number start text before new room later within left.is left.files

@@ -11,9 +11,9 @@ use Rattle.text_lexer.specs.declared.error.Cause.{Cause}
 use Rattle.text_lexer.specs.declared.error.Cause.TheVariants.{NotOurs}
 use Rattle.text_lexer.specs.Causes.{◌>>=◌}
 use Rattle.maps_read.specs.declared.maps.MapsLine.{MapsLine}
-use Rattle.maps_read.specs.FileLines.{same_file, file_place, file_text, files_opened, are_one_file}
-use Rattle.maps_read.specs.Retracing.{Taken, nothing_taken, area_of, may_follow, is_text_of, is_ours, areas_with, with_area, with_next_file, with_file_at, with_file, file_at, with_line}
-use Rattle.maps_read.specs.Internal.Taking.{IsPrinted, IsTaken}
+use Rattle.maps_read.specs.FileLines.{same_file, first_line_of_file, file_text, files_opened, are_one_file}
+use Rattle.maps_read.specs.Retracing.{Taken, nothing_taken, area_of, may_follow, is_text_of, is_ours, areas_with, with_area, with_next_file, with_file_at, with_file_taken, file_at, with_line_taken}
+use Rattle.maps_read.specs.Internal.Taking.{IsPrinted, AreLinesTaken}
 
 abbrev ok_of : {A E : Type 0} → A → Result A E
 ok_of a = Ok a
@@ -66,11 +66,11 @@ areas_kept areas more files object line text e few printed =
     subst (All IsPrinted) (sym are.1) (All-append IsPrinted areas (area_of object line ∷ []) printed
     (All-cons IsPrinted (area_of object line) [] (area_printed areas files object line text are.0 few) (All-nil IsPrinted)))
 
-area_kept : (taken next : Taken) (files : List FileRow) (object : ℕ) (line : MapsLine) (text : List ℕ) → IsTaken taken → object ≤ 1024
-    → with_area taken files object line text ≡ Ok next → IsTaken next
+area_kept : (taken next : Taken) (files : List FileRow) (object : ℕ) (line : MapsLine) (text : List ℕ) → AreLinesTaken taken → object ≤ 1024
+    → with_area taken files object line text ≡ Ok next → AreLinesTaken next
 area_kept taken next files object line text is few e =
     let found = bound_ok (areas_with taken.areas files object line text) (λ areas. Ok (record taken { areas = areas })) next e in
-    subst IsTaken (same_ok (record taken { areas = found.0 }) next found.2) (record {
+    subst AreLinesTaken (same_ok (record taken { areas = found.0 }) next found.2) (record {
       few = is.few;
       both = is.both;
       one = is.one;
@@ -83,8 +83,8 @@ one_file fd (file ∷ []) e = refl
 one_file fd (file ∷ other ∷ files) e = absurd (cc e)
 
 -- the next file: one more
-pub next_file_kept : (taken next : Taken) (line : MapsLine) → IsTaken taken → with_next_file taken line ≡ Ok next
-    → IsTaken next × (length next.opened ≡ length taken.named + 1)
+pub next_file_kept : (taken next : Taken) (line : MapsLine) → AreLinesTaken taken → with_next_file taken line ≡ Ok next
+    → AreLinesTaken next × (length next.opened ≡ length taken.named + 1)
 unfolding with_next_file
 next_file_kept taken next line is e =
     let fd = 3 + length taken.named in
@@ -96,7 +96,7 @@ next_file_kept taken next line is e =
     let both = is.both in
     let named = length-append taken.named (line ∷ []) in
     let opened = length-append taken.opened (files ∷ []) in
-    let kept : IsTaken after × (length after.opened ≡ length taken.named + 1) = (
+    let kept : AreLinesTaken after × (length after.opened ≡ length taken.named + 1) = (
       record {
         few = omega arith;
         both = omega arith;
@@ -106,39 +106,39 @@ next_file_kept taken next line is e =
       },
       omega arith,
     ) in
-    subst (λ (t : Taken). IsTaken t × (length t.opened ≡ length taken.named + 1)) tests.1 kept
+    subst (λ (t : Taken). AreLinesTaken t × (length t.opened ≡ length taken.named + 1)) tests.1 kept
 
 -- the file of a line has a place
-pub file_kept : (taken : Taken) (found : Taken × ℕ) (line : MapsLine) → IsTaken taken → with_file taken line ≡ Ok found
-    → IsTaken found.0 × (found.1 < length found.0.opened)
-unfolding with_file
-file_kept taken found line is e = by_place (file_place taken.named line) refl e
+pub file_kept : (taken : Taken) (found : Taken × ℕ) (line : MapsLine) → AreLinesTaken taken → with_file_taken taken line ≡ Ok found
+    → AreLinesTaken found.0 × (found.1 < length found.0.opened)
+unfolding with_file_taken
+file_kept taken found line is e = by_place (first_line_of_file taken.named line) refl e
   where
-    by_place : (place : Option ℕ) → file_place taken.named line ≡ place → with_file_at taken place line ≡ Ok found
-        → IsTaken found.0 × (found.1 < length found.0.opened)
+    by_place : (place : Option ℕ) → first_line_of_file taken.named line ≡ place → with_file_at taken place line ≡ Ok found
+        → AreLinesTaken found.0 × (found.1 < length found.0.opened)
     by_place (Some place) at e =
         let within = (position-Some (λ other. same_file other line) taken.named place line at).0 in
         let both = is.both in
-        subst (λ (f : Taken × ℕ). IsTaken f.0 × (f.1 < length f.0.opened)) (same_ok (taken, place) found e) (is, omega arith)
+        subst (λ (f : Taken × ℕ). AreLinesTaken f.0 × (f.1 < length f.0.opened)) (same_ok (taken, place) found e) (is, omega arith)
     by_place None at e =
         let next = bound_ok (with_next_file taken line) (λ next. Ok (next, length taken.named)) found e in
         let kept = next_file_kept taken next.0 line is next.1 in
         let more = kept.1 in
-        subst (λ (f : Taken × ℕ). IsTaken f.0 × (f.1 < length f.0.opened)) (same_ok (next.0, length taken.named) found next.2) (kept.0, omega arith)
+        subst (λ (f : Taken × ℕ). AreLinesTaken f.0 × (f.1 < length f.0.opened)) (same_ok (next.0, length taken.named) found next.2) (kept.0, omega arith)
 
 -- a line
-pub line_kept : (taken next : Taken) (line : MapsLine) (text : List ℕ) → IsTaken taken → with_line taken line text ≡ Ok next → IsTaken next
-unfolding with_line
+pub line_kept : (taken next : Taken) (line : MapsLine) (text : List ℕ) → AreLinesTaken taken → with_line_taken taken line text ≡ Ok next → AreLinesTaken next
+unfolding with_line_taken
 line_kept taken next line text is e =
     cond_both (nat_eq (length line.name) 0) (with_area taken [] 0 line text)
-    (with_file taken line >>= λ found. with_area found.0 (file_at found.0 found.1) (found.1 + 1) line text)
-    (λ read. read ≡ Ok next → IsTaken next)
+    (with_file_taken taken line >>= λ found. with_area found.0 (file_at found.0 found.1) (found.1 + 1) line text)
+    (λ read. read ≡ Ok next → AreLinesTaken next)
     (λ _ e. area_kept taken next [] 0 line text is (omega arith) e)
-    (λ _ e. let found = bound_ok (with_file taken line) (λ found. with_area found.0 (file_at found.0 found.1) (found.1 + 1) line text) next e in
+    (λ _ e. let found = bound_ok (with_file_taken taken line) (λ found. with_area found.0 (file_at found.0 found.1) (found.1 + 1) line text) next e in
     let kept = file_kept taken found.0 line is found.1 in
     let place = kept.1 in let both = kept.0.both in let few = kept.0.few in
     area_kept found.0.0 next (file_at found.0.0 found.0.1) (found.0.1 + 1) line text kept.0 (omega arith) found.2)
     e
 
-pub nothing_kept : IsTaken nothing_taken
+pub nothing_kept : AreLinesTaken nothing_taken
 nothing_kept = record { few = omega arith; both = refl; one = All-nil (λ f. length f ≡ 1); areas = All-nil IsPrinted }

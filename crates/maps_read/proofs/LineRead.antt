@@ -8,14 +8,14 @@ use Rattle.text_lexer.specs.BadLines.{at_line}
 use Rattle.text_lexer.specs.Lines.{input_limit, RawLine, text_within}
 use Rattle.maps_read.specs.declared.maps.MapsLine.{MapsLine}
 use Rattle.maps_read.specs.declared.reading.TheConstants.{MAPS_LINE_LIMIT}
-use Rattle.maps_read.specs.Fields.{line_of}
-use Rattle.maps_read.specs.Maps.{end_of, is_in_order, next_line, after_line}
+use Rattle.maps_read.specs.Fields.{read_maps_line}
+use Rattle.maps_read.specs.Maps.{lines_end, is_in_order, next_maps_line, after_maps_line}
 
 -- a line was read behind others: its text says this line, which is in order, and stands behind them
 pub record IsRead (before : List MapsLine) (raw : RawLine) (after : List MapsLine) : Type 0 where
   pub line : MapsLine
-  pub says : line_of raw.text ≡ Ok line
-  pub order : is_in_order (end_of before) line ≡ true
+  pub says : read_maps_line raw.text ≡ Ok line
+  pub order : is_in_order (lines_end before) line ≡ true
   pub behind : after ≡ before ++ line ∷ []
 
 -- where one reading and then another gave something, each did
@@ -35,21 +35,21 @@ if_Ok : {A : Type 0} (b : Bool) (line found : A) → (if b then Ok line else Err
 if_Ok true line found e = (refl, cc)
 if_Ok false line found e = absurd cc
 
-next_line-Ok : (end : ℕ) (raw : RawLine) (line : MapsLine) → next_line end raw ≡ Ok line → (line_of raw.text ≡ Ok line) × (is_in_order end line ≡ true)
-unfolding next_line
+next_line-Ok : (end : ℕ) (raw : RawLine) (line : MapsLine) → next_maps_line end raw ≡ Ok line → (read_maps_line raw.text ≡ Ok line) × (is_in_order end line ≡ true)
+unfolding next_maps_line
 next_line-Ok end raw line e =
     let text = then_Ok (text_within MAPS_LINE_LIMIT input_limit raw) _ line e in
-    let said = then_Ok (line_of text.0) _ line text.2 in
+    let said = then_Ok (read_maps_line text.0) _ line text.2 in
     let order = if_Ok (is_in_order end said.0) said.0 line said.2 in (
-      ap line_of (text_within-Ok MAPS_LINE_LIMIT input_limit raw text.0 text.1) ∙ said.1 ∙ ap Ok order.1,
+      ap read_maps_line (text_within-Ok MAPS_LINE_LIMIT input_limit raw text.0 text.1) ∙ said.1 ∙ ap Ok order.1,
       subst (λ (l : MapsLine). is_in_order end l ≡ true) order.1 order.0,
     )
 
-pub after_line-Ok : (before after : List MapsLine) (raw : RawLine) → after_line before raw ≡ Ok after → IsRead before raw after
-unfolding after_line
+pub after_line-Ok : (before after : List MapsLine) (raw : RawLine) → after_maps_line before raw ≡ Ok after → IsRead before raw after
+unfolding after_maps_line
 after_line-Ok before after raw e =
-    let read = then_Ok (next_line (end_of before) raw) (λ line. Ok (before ++ line ∷ [])) after e in
-    let line = next_line-Ok (end_of before) raw read.0 read.1 in
+    let read = then_Ok (next_maps_line (lines_end before) raw) (λ line. Ok (before ++ line ∷ [])) after e in
+    let line = next_line-Ok (lines_end before) raw read.0 read.1 in
     record { line = read.0; says = line.0; order = line.1; behind = cc }
 
 -- where lines were all read, the first was

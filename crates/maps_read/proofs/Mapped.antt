@@ -31,7 +31,7 @@ use Rattle.area_rules.proofs.Guarding.{step_guarded}
 use Rattle.area_rules.proofs.MmapTable.{mmap_maps}
 use Rattle.trace_reader.specs.LineTexts.{bits_of_prot}
 use Rattle.maps_read.specs.RetraceLaws.{space_with}
-use Rattle.maps_read.specs.Mappings.{descriptor_of, flags_of, mapping_of}
+use Rattle.maps_read.specs.Mappings.{descriptor_of, mapping_flags, mapping_of}
 use Rattle.maps_read.proofs.OpenFiles.{AreOpenFrom, IsFound, find_open, position_open}
 use Rattle.maps_read.proofs.PutLast.{put_last}
 
@@ -57,8 +57,8 @@ flags_by true false = record { anonymous = refl; sharing = refl; private = refl;
 flags_by false true = record { anonymous = refl; sharing = refl; private = refl; fixed = refl; replaces = refl; stays = refl; rows = refl; small = omega arith; short = lit≤ tt }
 flags_by false false = record { anonymous = refl; sharing = refl; private = refl; fixed = refl; replaces = refl; stays = refl; rows = refl; small = omega arith; short = lit≤ tt }
 
-pub flags_say : (area : Record) → SayFlags area.attr.shared (nat_eq area.object 0) (flags_of area)
-unfolding flags_of
+pub flags_say : (area : Record) → SayFlags area.attr.shared (nat_eq area.object 0) (mapping_flags area)
+unfolding mapping_flags
 flags_say area = flags_by area.attr.shared (nat_eq area.object 0)
 
 -- the accesses that a protection allows have names
@@ -138,7 +138,7 @@ module _ (files : List FileRow) (opened : AreOpenFrom 3 files) (areas : List Rec
   abbrev count : ℕ
   count = area.span.hi - area.span.lo
 
-  flags : SayFlags area.attr.shared none (flags_of area)
+  flags : SayFlags area.attr.shared none (mapping_flags area)
   flags = flags_say area
 
   -- the file of an object
@@ -169,11 +169,11 @@ module _ (files : List FileRow) (opened : AreOpenFrom 3 files) (areas : List Rec
       ∙ not_and none (option_map_or (denies (mapping_of area)) (file_of files (descriptor_of area.object)) false)
       (λ some. let found = file_found some in
       ap (λ o. option_map_or (denies (mapping_of area)) o false) (file_is some)
-      ∙ no_write_denied found.file.read found.file.write (has_flag (flags_of area) MAP_SHARED) area.attr.prot.write found.opened.read found.opened.write)
+      ∙ no_write_denied found.file.read found.file.write (has_flag (mapping_flags area) MAP_SHARED) area.attr.prot.write found.opened.read found.opened.write)
 
   is_placed : is_fixed (mapping_of area) ≡ true
   unfolding is_fixed mapping_of
-  is_placed = ap (λ (b : Bool). b || has_flag (flags_of area) MAP_FIXED_NOREPLACE) flags.fixed
+  is_placed = ap (λ (b : Bool). b || has_flag (mapping_flags area) MAP_FIXED_NOREPLACE) flags.fixed
 
   not_taken : is_taken areas (mapping_of area) ≡ false
   unfolding is_taken mapping_of
@@ -191,8 +191,8 @@ module _ (files : List FileRow) (opened : AreOpenFrom 3 files) (areas : List Rec
       let long : nat_eq (PAGE_SIZE * count) 0 ≡ false = ne_eqb (PAGE_SIZE * count) 0 (λ e. omega arith) in
       let short : nat_lt (page_of ADDRESS_LIMIT) (pages_of (PAGE_SIZE * count)) ≡ false =
       le-ltb (page_of ADDRESS_LIMIT) (pages_of (PAGE_SIZE * count)) (omega arith) in
-      let shares : (if has_flag (flags_of area) MAP_SHARED then has_flag (flags_of area) MAP_PRIVATE else not (has_flag (flags_of area) MAP_PRIVATE)) ≡ false =
-      sharing_named (has_flag (flags_of area) MAP_SHARED) (has_flag (flags_of area) MAP_PRIVATE) (flags.private ∙ ap not (sym flags.sharing)) in
+      let shares : (if has_flag (mapping_flags area) MAP_SHARED then has_flag (mapping_flags area) MAP_PRIVATE else not (has_flag (mapping_flags area) MAP_PRIVATE)) ≡ false =
+      sharing_named (has_flag (mapping_flags area) MAP_SHARED) (has_flag (mapping_flags area) MAP_PRIVATE) (flags.private ∙ ap not (sym flags.sharing)) in
       let high : nat_lt (PAGE_SIZE * area.span.lo) DEFAULT_MIN ≡ false = le-ltb (PAGE_SIZE * area.span.lo) DEFAULT_MIN below in
       let low : nat_lt ADDRESS_LIMIT (PAGE_SIZE * area.span.lo + PAGE_SIZE * pages_of (PAGE_SIZE * count)) ≡ false =
       le-ltb ADDRESS_LIMIT (PAGE_SIZE * area.span.lo + PAGE_SIZE * pages_of (PAGE_SIZE * count)) (omega arith) in
@@ -201,24 +201,24 @@ module _ (files : List FileRow) (opened : AreOpenFrom 3 files) (areas : List Rec
   -- the new area is this one
   same_most : most_allowed (default_config files) (mapping_of area) ≡ area.attr.most
   unfolding most_allowed mapping_of default_config
-  same_most = cond_both (has_flag (flags_of area) MAP_ANONYMOUS) (record { read = true; write = true; exec = true })
-      (option_map_or (most_of (has_flag (flags_of area) MAP_SHARED)) (file_of files (descriptor_of area.object)) (record { read = true; write = true; exec = true }))
+  same_most = cond_both (has_flag (mapping_flags area) MAP_ANONYMOUS) (record { read = true; write = true; exec = true })
+      (option_map_or (most_of (has_flag (mapping_flags area) MAP_SHARED)) (file_of files (descriptor_of area.object)) (record { read = true; write = true; exec = true }))
       (λ (p : Prot). p ≡ area.attr.most) (λ _. sym mapped.most)
       (λ some. let is : none ≡ false = sym flags.anonymous ∙ some in let found = file_found is in
-      ap (λ o. option_map_or (most_of (has_flag (flags_of area) MAP_SHARED)) o (record { read = true; write = true; exec = true })) (file_is is)
-      ∙ ap (λ (b : Bool). record { read = true; write = b; exec = true }) (most_written (has_flag (flags_of area) MAP_SHARED) found.file.write found.opened.write)
+      ap (λ o. option_map_or (most_of (has_flag (mapping_flags area) MAP_SHARED)) o (record { read = true; write = true; exec = true })) (file_is is)
+      ∙ ap (λ (b : Bool). record { read = true; write = b; exec = true }) (most_written (has_flag (mapping_flags area) MAP_SHARED) found.file.write found.opened.write)
       ∙ sym mapped.most)
 
   -- private memory where no file is mapped
-  no_sharing : none ≡ true → has_flag (flags_of area) MAP_SHARED ≡ false
+  no_sharing : none ≡ true → has_flag (mapping_flags area) MAP_SHARED ≡ false
   no_sharing is = flags.sharing ∙ (valid.anonymous (eqb-true area.object 0 is)).1
 
   same_object : object_mapped (default_config files) (length files) (mapping_of area) ≡ area.object
   unfolding object_mapped mapping_of default_config object_of file_place
-  same_object = cond_both (has_flag (flags_of area) MAP_ANONYMOUS) (if has_flag (flags_of area) MAP_SHARED then length files + 1 else 0)
+  same_object = cond_both (has_flag (mapping_flags area) MAP_ANONYMOUS) (if has_flag (mapping_flags area) MAP_SHARED then length files + 1 else 0)
       (option_map_or (λ object. object) (object_of files (descriptor_of area.object)) 0) (λ (n : ℕ). n ≡ area.object)
       (λ is. let yes : none ≡ true = sym flags.anonymous ∙ is in
-      cond-false (has_flag (flags_of area) MAP_SHARED) (length files + 1) 0 (no_sharing yes) ∙ sym (eqb-true area.object 0 yes))
+      cond-false (has_flag (mapping_flags area) MAP_SHARED) (length files + 1) 0 (no_sharing yes) ∙ sym (eqb-true area.object 0 yes))
       (λ some. let is : none ≡ false = sym flags.anonymous ∙ some in
       let few = mapped.object in
       let above : area.object ≢ 0 = λ zero. absurd (cc (eq-eqb area.object 0 zero, is)) in
@@ -228,8 +228,8 @@ module _ (files : List FileRow) (opened : AreOpenFrom 3 files) (areas : List Rec
       (position_open files (2 + area.object) (area.object - 1) (file_found is) (omega arith))
       ∙ e)
 
-  same_offset : (if has_flag (flags_of area) MAP_ANONYMOUS then 0 else page_of (PAGE_SIZE * area.offset)) ≡ area.offset
-  same_offset = cond_both (has_flag (flags_of area) MAP_ANONYMOUS) 0 (page_of (PAGE_SIZE * area.offset)) (λ (n : ℕ). n ≡ area.offset)
+  same_offset : (if has_flag (mapping_flags area) MAP_ANONYMOUS then 0 else page_of (PAGE_SIZE * area.offset)) ≡ area.offset
+  same_offset = cond_both (has_flag (mapping_flags area) MAP_ANONYMOUS) 0 (page_of (PAGE_SIZE * area.offset)) (λ (n : ℕ). n ≡ area.offset)
       (λ is. sym (valid.anonymous (eqb-true area.object 0 (sym flags.anonymous ∙ is))).0) (λ _. page_address area.offset)
 
   same_area : new_area (default_config files) (length files) (mapping_of area) area.span.lo ≡ area
@@ -259,8 +259,8 @@ module _ (files : List FileRow) (opened : AreOpenFrom 3 files) (areas : List Rec
 
   no_objects : objects_after (length files) (mapping_of area) ≡ length files
   unfolding objects_after mapping_of
-  no_objects = cond_both (has_flag (flags_of area) MAP_ANONYMOUS && has_flag (flags_of area) MAP_SHARED) (length files + 1) (length files)
-      (λ (n : ℕ). n ≡ length files) (λ both. absurd (not_both (has_flag (flags_of area) MAP_ANONYMOUS) (has_flag (flags_of area) MAP_SHARED)
+  no_objects = cond_both (has_flag (mapping_flags area) MAP_ANONYMOUS && has_flag (mapping_flags area) MAP_SHARED) (length files + 1) (length files)
+      (λ (n : ℕ). n ≡ length files) (λ both. absurd (not_both (has_flag (mapping_flags area) MAP_ANONYMOUS) (has_flag (mapping_flags area) MAP_SHARED)
       (λ is. no_sharing (sym flags.anonymous ∙ is)) both)) (λ _. refl)
     where
       not_both : (a b : Bool) → (a ≡ true → b ≡ false) → (a && b) ≡ true → ⊥
@@ -291,7 +291,7 @@ module _ (files : List FileRow) (opened : AreOpenFrom 3 files) (areas : List Rec
   not_sealed : Each (λ other. other.attr.sealed ≡ false) areas
       → is_sealed_off areas (Mmap (mapping_of area)) (Addr (PAGE_SIZE * area.span.lo)) ≡ false
   unfolding is_sealed_off guarded_ranges mapping_of
-  not_sealed unsealed = by_flag (has_flag (flags_of area) MAP_FIXED)
+  not_sealed unsealed = by_flag (has_flag (mapping_flags area) MAP_FIXED)
     where
       by_flag : (fixed : Bool) → list_any (λ range. has_sealed range areas) (if not fixed then [] else range_of (PAGE_SIZE * area.span.lo) (PAGE_SIZE * (area.span.hi - area.span.lo)) ∷ []) ≡ false
       by_flag true = ap (λ (b : Bool). b || false) (none_sealed (range_of (PAGE_SIZE * area.span.lo) (PAGE_SIZE * (area.span.hi - area.span.lo))) areas unsealed)

@@ -9,15 +9,15 @@ use Rattle.mm_types.specs.declared.flags.TheConstants.{MAP_ANONYMOUS}
 use Rattle.mm_types.specs.Flags.{has_flag}
 use Rattle.flag_table.specs.Printing.{printed}
 use Rattle.flag_table.specs.Tables.{map_flags}
-use Rattle.trace_reader.specs.LineTexts.{hexadecimal, address_word, prot_word}
+use Rattle.trace_reader.specs.LineTexts.{hexadecimal_text, address_word, prot_word}
 use Rattle.trace_reader.proofs.Numerals.{address_word-some}
-use Rattle.maps_read.specs.Mappings.{descriptor_of, flags_of, mapping_of, offset_word, backing_text, mapping_text}
+use Rattle.maps_read.specs.Mappings.{descriptor_of, mapping_flags, mapping_of, offset_word, backing_text, mapping_text}
 use Rattle.maps_read.proofs.Mapped.{flags_say}
 
 -- the words, one after another
 words : (area : Record) → mapping_text area ≡ codes "0 mmap " ++ (address_word (PAGE_SIZE * area.span.lo) ++ (codes " "
     ++ (decimal (PAGE_SIZE * (area.span.hi - area.span.lo)) ++ (codes " " ++ (prot_word area.attr.prot ++ (codes " "
-    ++ (printed map_flags (flags_of area) ++ (codes " " ++ (signed_decimal (descriptor_of area.object) ++ (codes " "
+    ++ (printed map_flags (mapping_flags area) ++ (codes " " ++ (signed_decimal (descriptor_of area.object) ++ (codes " "
     ++ (offset_word (mapping_of area) ++ codes "\n")))))))))))
 unfolding mapping_text mapping_of
 words area = rw (decimal_digit 0 (omega arith)) (simp append_assoc)
@@ -33,21 +33,21 @@ some_descriptor (suc place) some = ap decimal (let e : 3 + place ≡ 3 + (suc pl
 
 no_offset : (area : Record) → area.object ≡ 0 → offset_word (mapping_of area) ≡ codes "0"
 unfolding offset_word mapping_of
-no_offset area none = cond-true (has_flag (flags_of area) MAP_ANONYMOUS) (codes "0") (hexadecimal (PAGE_SIZE * area.offset))
+no_offset area none = cond-true (has_flag (mapping_flags area) MAP_ANONYMOUS) (codes "0") (hexadecimal_text (PAGE_SIZE * area.offset))
     ((flags_say area).anonymous ∙ eq-eqb area.object 0 none)
 
-some_offset : (area : Record) → area.object ≢ 0 → offset_word (mapping_of area) ≡ hexadecimal (PAGE_SIZE * area.offset)
+some_offset : (area : Record) → area.object ≢ 0 → offset_word (mapping_of area) ≡ hexadecimal_text (PAGE_SIZE * area.offset)
 unfolding offset_word mapping_of
-some_offset area some = cond-false (has_flag (flags_of area) MAP_ANONYMOUS) (codes "0") (hexadecimal (PAGE_SIZE * area.offset))
+some_offset area some = cond-false (has_flag (mapping_flags area) MAP_ANONYMOUS) (codes "0") (hexadecimal_text (PAGE_SIZE * area.offset))
     ((flags_say area).anonymous ∙ ne_eqb area.object 0 some)
 
 -- what stands before the descriptor
 abbrev pub front : Record → List ℕ
 front area = codes "0 mmap 0x" ++ (digits 16 false (PAGE_SIZE * area.span.lo) ++ (codes " "
     ++ (decimal (PAGE_SIZE * (area.span.hi - area.span.lo)) ++ (codes " " ++ (prot_word area.attr.prot ++ (codes " "
-    ++ printed map_flags (flags_of area)))))))
+    ++ printed map_flags (mapping_flags area)))))))
 
-address : (area : Record) → 0 < area.span.lo → address_word (PAGE_SIZE * area.span.lo) ≡ hexadecimal (PAGE_SIZE * area.span.lo)
+address : (area : Record) → 0 < area.span.lo → address_word (PAGE_SIZE * area.span.lo) ≡ hexadecimal_text (PAGE_SIZE * area.span.lo)
 address area above = address_word-some (PAGE_SIZE * area.span.lo) (omega arith)
 
 -- the front and what follows

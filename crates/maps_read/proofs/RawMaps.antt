@@ -12,8 +12,8 @@ use Rattle.text_lexer.specs.Causes.{◌>>=◌, unless}
 use Rattle.text_lexer.specs.BadLines.{at_line, lines_leave}
 use Rattle.text_lexer.specs.Lines.{input_limit, RawLine, raw_line, is_newline, is_longer_than, text_within, lines_of_pieces, lines_from, raw_lines}
 use Rattle.maps_read.specs.declared.maps.MapsLine.{MapsLine}
-use Rattle.maps_read.specs.Fields.{behind, behind_words, word, leading_spaces, without_leading_spaces, hexadecimal, decimal, bounds, device, perms, line_of_words, line_of}
-use Rattle.maps_read.specs.Maps.{end_of, is_in_order, next_line, after_line, maps_of}
+use Rattle.maps_read.specs.Fields.{behind, behind_words, word_behind, leading_spaces, without_leading_spaces, read_hexadecimal, decimal, bounds, read_maps_device, read_perms, maps_line_of_words, read_maps_line}
+use Rattle.maps_read.specs.Maps.{lines_end, is_in_order, next_maps_line, after_maps_line, maps_of}
 
 abbrev ok_of : {A E : Type 0} → A → Result A E
 ok_of a = Ok a
@@ -26,7 +26,7 @@ same_ok a b e = cc
 -- a raw line that ends, and is read as this line
 pub record IsReadAs (raw : RawLine) (line : MapsLine) : Type 0 where
   pub ended : raw.ended ≡ true
-  pub reads : line_of raw.text ≡ Ok line
+  pub reads : read_maps_line raw.text ≡ Ok line
 
 -- so are raw lines, one by one
 abbrev pub AreReadAs : List RawLine → List MapsLine → Type 0
@@ -64,20 +64,20 @@ ordered : (end : ℕ) (read : Result MapsLine Cause) (line : MapsLine) → (read
 ordered end (Ok a) line e = ap Ok (in_order (is_in_order end a) a line e)
 ordered end (Err cause) line e = absurd (cc e)
 
-next_read : (end : ℕ) (raw : RawLine) (line : MapsLine) → next_line end raw ≡ Ok line → IsReadAs raw line
-unfolding next_line text_within
+next_read : (end : ℕ) (raw : RawLine) (line : MapsLine) → next_maps_line end raw ≡ Ok line → IsReadAs raw line
+unfolding next_maps_line text_within
 next_read end raw line e =
     let parts = tests (is_longer_than 8192 input_limit raw) raw.ended (is_utf8 raw.text) raw.text
-    (λ text. line_of text >>= λ a. if is_in_order end a then Ok a else Err MapsOrder) line e in
-    record { ended = parts.0; reads = ordered end (line_of raw.text) line parts.1 }
+    (λ text. read_maps_line text >>= λ a. if is_in_order end a then Ok a else Err MapsOrder) line e in
+    record { ended = parts.0; reads = ordered end (read_maps_line raw.text) line parts.1 }
 
-one_read : (before after : List MapsLine) (raw : RawLine) → after_line before raw ≡ Ok after → IsReadBehind raw before after
-unfolding after_line
-one_read before after raw e = by_next (next_line (end_of before) raw) refl e
+one_read : (before after : List MapsLine) (raw : RawLine) → after_maps_line before raw ≡ Ok after → IsReadBehind raw before after
+unfolding after_maps_line
+one_read before after raw e = by_next (next_maps_line (lines_end before) raw) refl e
   where
-    by_next : (next : Result MapsLine Cause) → next_line (end_of before) raw ≡ next → (next >>= λ line. Ok (before ++ line ∷ [])) ≡ Ok after
+    by_next : (next : Result MapsLine Cause) → next_maps_line (lines_end before) raw ≡ next → (next >>= λ line. Ok (before ++ line ∷ [])) ≡ Ok after
         → IsReadBehind raw before after
-    by_next (Ok line) is e = record { line = line; read = next_read (end_of before) raw line is; is = sym (same_ok (before ++ line ∷ []) after e) }
+    by_next (Ok line) is e = record { line = line; read = next_read (lines_end before) raw line is; is = sym (same_ok (before ++ line ∷ []) after e) }
     by_next (Err cause) is e = absurd (cc e)
 
 -- what lines that were all read are behind some
@@ -86,14 +86,14 @@ record AreReadBehind (raws : List RawLine) (before after : List MapsLine) : Type
   read : AreReadAs raws lines
   are : after ≡ before ++ lines
 
-all_read : (raws : List RawLine) (before after : List MapsLine) → lines_leave after_line before raws ≡ Ok after → AreReadBehind raws before after
+all_read : (raws : List RawLine) (before after : List MapsLine) → lines_leave after_maps_line before raws ≡ Ok after → AreReadBehind raws before after
 all_read [] before after e = record { lines = []; read = tt; are = sym (append-nil before ∙ same_ok before after e) }
 all_read (raw ∷ raws) before after e =
-    by_first (λ next. all_read raws next after) (after_line before raw) refl e
+    by_first (λ next. all_read raws next after) (after_maps_line before raw) refl e
   where
-    by_first : ((next : List MapsLine) → lines_leave after_line next raws ≡ Ok after → AreReadBehind raws next after)
-        → (first : Result (List MapsLine) Cause) → after_line before raw ≡ first
-        → at_line raw.number first (λ next. lines_leave after_line next raws) ≡ Ok after → AreReadBehind (raw ∷ raws) before after
+    by_first : ((next : List MapsLine) → lines_leave after_maps_line next raws ≡ Ok after → AreReadBehind raws next after)
+        → (first : Result (List MapsLine) Cause) → after_maps_line before raw ≡ first
+        → at_line raw.number first (λ next. lines_leave after_maps_line next raws) ≡ Ok after → AreReadBehind (raw ∷ raws) before after
     by_first others (Ok next) is e =
         let one = one_read before next raw is in
         let rest = others next e in
@@ -179,13 +179,13 @@ bound_ok (Ok a) f b e = (a, e)
 bound_ok (Err cause) f b e = absurd (cc e)
 
 name_of_words : (addresses letters start numbers node name : List ℕ) (line : MapsLine)
-    → line_of_words addresses letters start numbers node name ≡ Ok line → line.name ≡ name
-unfolding line_of_words
+    → maps_line_of_words addresses letters start numbers node name ≡ Ok line → line.name ≡ name
+unfolding maps_line_of_words
 name_of_words addresses letters start numbers node name line e =
     let first = bound_ok (bounds addresses) _ line e in
-    let second = bound_ok (perms letters) _ line first.1 in
-    let third = bound_ok (hexadecimal 16 start) _ line second.1 in
-    let fourth = bound_ok (device numbers) _ line third.1 in
+    let second = bound_ok (read_perms letters) _ line first.1 in
+    let third = bound_ok (read_hexadecimal 16 start) _ line second.1 in
+    let fourth = bound_ok (read_maps_device numbers) _ line third.1 in
     let fifth = bound_ok (decimal node) _ line fourth.1 in
     ap (λ (l : MapsLine). l.name) (sym (same_ok _ line fifth.1))
 
@@ -194,8 +194,8 @@ behind_single zero text single = single
 behind_single (suc count) text single = behind_single count (behind (byte " ") text)
     (All-drop (λ c. is_newline c ≡ false) (position_or_len (λ c. nat_eq c (byte " ")) text + 1) text single)
 
-pub name_single : (text : List ℕ) (line : MapsLine) → IsSingle text → line_of text ≡ Ok line → IsSingle line.name
-unfolding line_of without_leading_spaces leading_spaces
+pub name_single : (text : List ℕ) (line : MapsLine) → IsSingle text → read_maps_line text ≡ Ok line → IsSingle line.name
+unfolding read_maps_line without_leading_spaces leading_spaces
 name_single text line single e =
-    let is = name_of_words (word 0 text) (word 1 text) (word 2 text) (word 3 text) (word 4 text) (without_leading_spaces (behind_words 5 text)) line e in
+    let is = name_of_words (word_behind 0 text) (word_behind 1 text) (word_behind 2 text) (word_behind 3 text) (word_behind 4 text) (without_leading_spaces (behind_words 5 text)) line e in
     rw is (All-drop (λ c. is_newline c ≡ false) (leading_spaces (behind_words 5 text)) (behind_words 5 text) (behind_single 5 text single))

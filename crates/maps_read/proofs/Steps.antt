@@ -14,8 +14,8 @@ use Rattle.text_lexer.specs.Lines.{RawLine, lines_from}
 use Rattle.text_lexer.specs.Reading.{Fails, Gives}
 use Rattle.text_lexer.proofs.RawPieces.{lines_from-nil}
 use Rattle.maps_read.specs.declared.maps.MapsLine.{MapsLine}
-use Rattle.maps_read.specs.FileLines.{file_place, file_text, file_texts}
-use Rattle.maps_read.specs.Retracing.{Taken, areas_with, with_next_file, with_file_at, with_file, file_at, with_line, with_lines}
+use Rattle.maps_read.specs.FileLines.{first_line_of_file, file_text, file_texts}
+use Rattle.maps_read.specs.Retracing.{Taken, areas_with, with_next_file, with_file_at, with_file_taken, file_at, with_line_taken, with_lines}
 use Rattle.maps_read.proofs.RawMaps.{AreReadAs}
 
 -- ---- lists
@@ -50,18 +50,18 @@ position_map p f xs =
 
 -- ---- taking a line
 
-pub file_so_far : (taken : Taken) (line : MapsLine) (place : ℕ) → file_place taken.named line ≡ Some place → with_file taken line ≡ Ok (taken, place)
-unfolding with_file
+pub file_so_far : (taken : Taken) (line : MapsLine) (place : ℕ) → first_line_of_file taken.named line ≡ Some place → with_file_taken taken line ≡ Ok (taken, place)
+unfolding with_file_taken
 file_so_far taken line place at = ap (λ o. with_file_at taken o line) at
 
-pub file_next : (taken next : Taken) (line : MapsLine) → file_place taken.named line ≡ None → with_next_file taken line ≡ Ok next
-    → with_file taken line ≡ Ok (next, length taken.named)
-unfolding with_file
+pub file_next : (taken next : Taken) (line : MapsLine) → first_line_of_file taken.named line ≡ None → with_next_file taken line ≡ Ok next
+    → with_file_taken taken line ≡ Ok (next, length taken.named)
+unfolding with_file_taken
 file_next taken next line at e = ap (λ o. with_file_at taken o line) at ∙ ap (λ read. read >>= λ n. Ok (n, length taken.named)) e
 
-pub file_fails : (taken : Taken) (line : MapsLine) (error : CallError) → file_place taken.named line ≡ None → Fails error (with_next_file taken line)
-    → Fails error (with_file taken line)
-unfolding with_file
+pub file_fails : (taken : Taken) (line : MapsLine) (error : CallError) → first_line_of_file taken.named line ≡ None → Fails error (with_next_file taken line)
+    → Fails error (with_file_taken taken line)
+unfolding with_file_taken
 file_fails taken line (calls.Bad cause) at e = ap (λ o. with_file_at taken o line) at ∙ ap (λ read. read >>= λ n. Ok (n, length taken.named)) e
 file_fails taken line calls.NoMemory at e = tt
 
@@ -73,9 +73,9 @@ area_given (Err (calls.Bad cause)) read taken more gives = ap (λ r. r >>= λ ar
 area_given (Err calls.NoMemory) read taken more gives = tt
 
 pub line_of_file : (taken mid : Taken) (place : ℕ) (line : MapsLine) (text : List ℕ) → nat_eq (length line.name) 0 ≡ false
-    → with_file taken line ≡ Ok (mid, place)
-    → with_line taken line text ≡ (areas_with mid.areas (file_at mid place) (place + 1) line text >>= λ areas. Ok (record mid { areas = areas }))
-unfolding with_line
+    → with_file_taken taken line ≡ Ok (mid, place)
+    → with_line_taken taken line text ≡ (areas_with mid.areas (file_at mid place) (place + 1) line text >>= λ areas. Ok (record mid { areas = areas }))
+unfolding with_line_taken
 line_of_file taken mid place line text some e =
     cond-false (nat_eq (length line.name) 0) _ _ some
     ∙ ap (λ read. read >>= λ found. (areas_with found.0.areas (file_at found.0 found.1) (found.1 + 1) line text >>= λ areas. Ok (record found.0 { areas = areas }))) e
@@ -90,7 +90,7 @@ some_left number start [] line lines left is are = absurd (subst (λ (raws : Lis
 some_left number start (b ∷ bytes) line lines left is are = omega arith
 
 pub take_more : (before after : Taken) (raws more : List RawLine) (raw : RawLine) (line : MapsLine) (left lines : List MapsLine) (all : Result Taken BadLine)
-    → with_lines before raws left ≡ all → raws ≡ raw ∷ more → left ≡ line ∷ lines → with_line before line raw.text ≡ Ok after
+    → with_lines before raws left ≡ all → raws ≡ raw ∷ more → left ≡ line ∷ lines → with_line_taken before line raw.text ≡ Ok after
     → with_lines after more lines ≡ all
 take_more before after raws more raw line left lines all so_far first is good =
     sym (ap (λ read. at_line raw.number read (λ next. with_lines next more lines)) good)

@@ -6,8 +6,8 @@ use Rattle.mm_types.specs.declared.files.FileRow.{FileRow}
 use Rattle.text_lexer.specs.declared.error.CallError.{CallError}
 use Rattle.text_lexer.specs.declared.error.Cause.TheVariants.{NotOurs}
 use Rattle.maps_read.specs.declared.maps.MapsLine.{MapsLine}
-use Rattle.maps_read.specs.FileLines.{file_place, file_text, files_opened, are_one_file}
-use Rattle.maps_read.specs.Retracing.{Taken, area_of, is_text_of, may_map, is_ours, areas_with, with_next_file, with_file_at, with_file}
+use Rattle.maps_read.specs.FileLines.{first_line_of_file, file_text, files_opened, are_one_file}
+use Rattle.maps_read.specs.Retracing.{Taken, area_of, is_text_of, may_map, is_ours, areas_with, with_next_file, with_file_at, with_file_taken}
 use Rattle.maps_read.specs.Internal.Taking.{may_take_at, may_take}
 use Rattle.maps_read.proofs.Kept.{same_ok, passed, bound_ok}
 
@@ -26,17 +26,17 @@ same_error (Err given) error other is e = let same : given ≡ other = cc in sym
 -- a line without a name
 pub may_take_unnamed : (taken : Taken) (line : MapsLine) → nat_eq (length line.name) 0 ≡ true → may_map taken.areas 0 line ≡ true → may_take taken line ≡ true
 may_take_unnamed taken line none maps =
-    cond-true (nat_eq (length line.name) 0) (may_map taken.areas 0 line) (may_take_at taken (file_place taken.named line) line) none ∙ maps
+    cond-true (nat_eq (length line.name) 0) (may_map taken.areas 0 line) (may_take_at taken (first_line_of_file taken.named line) line) none ∙ maps
 
-named : (taken : Taken) (line : MapsLine) → nat_eq (length line.name) 0 ≡ false → may_take_at taken (file_place taken.named line) line ≡ true
+named : (taken : Taken) (line : MapsLine) → nat_eq (length line.name) 0 ≡ false → may_take_at taken (first_line_of_file taken.named line) line ≡ true
     → may_take taken line ≡ true
 named taken line some may =
-    cond-false (nat_eq (length line.name) 0) (may_map taken.areas 0 line) (may_take_at taken (file_place taken.named line) line) some ∙ may
+    cond-false (nat_eq (length line.name) 0) (may_map taken.areas 0 line) (may_take_at taken (first_line_of_file taken.named line) line) some ∙ may
 
 -- a line whose file is none so far, where there is room for one more
-pub may_take_next : (taken : Taken) (line : MapsLine) → nat_eq (length line.name) 0 ≡ false → (IsSome (file_place taken.named line) → false ≡ true)
+pub may_take_next : (taken : Taken) (line : MapsLine) → nat_eq (length line.name) 0 ≡ false → (IsSome (first_line_of_file taken.named line) → false ≡ true)
     → length taken.named < 1024 → may_take taken line ≡ true
-may_take_next taken line some next room = named taken line some (by_place (file_place taken.named line) next)
+may_take_next taken line some next room = named taken line some (by_place (first_line_of_file taken.named line) next)
   where
     by_place : (place : Option ℕ) → (IsSome place → false ≡ true) → may_take_at taken place line ≡ true
     by_place (Some place) next = absurd (cc (next refl))
@@ -52,10 +52,10 @@ next_room taken after line e =
     (and_parts (nat_lt (length taken.named) 1024) (are_one_file fd files) tests.0).0
 
 -- a line whose file has a place, where it may be mapped
-pub may_take_found : (taken : Taken) (found : Taken × ℕ) (line : MapsLine) → nat_eq (length line.name) 0 ≡ false → with_file taken line ≡ Ok found
+pub may_take_found : (taken : Taken) (found : Taken × ℕ) (line : MapsLine) → nat_eq (length line.name) 0 ≡ false → with_file_taken taken line ≡ Ok found
     → may_map found.0.areas (found.1 + 1) line ≡ true → may_take taken line ≡ true
-unfolding with_file
-may_take_found taken found line some e maps = named taken line some (by_place (file_place taken.named line) e)
+unfolding with_file_taken
+may_take_found taken found line some e maps = named taken line some (by_place (first_line_of_file taken.named line) e)
   where
     by_place : (place : Option ℕ) → with_file_at taken place line ≡ Ok found → may_take_at taken place line ≡ true
     by_place (Some place) e = subst (λ (f : Taken × ℕ). may_map f.0.areas (f.1 + 1) line ≡ true) (sym (same_ok (taken, place) found e)) maps

@@ -18,16 +18,16 @@ use Rattle.mm_types.specs.MapsText.{hex}
 use Rattle.mm_types.specs.Records.{IsValid}
 use Rattle.flag_table.specs.Printing.{printed}
 use Rattle.flag_table.specs.Tables.{prot_flags}
-use Rattle.trace_reader.specs.Grammar.{nothing, after_lines, lines_read, config_of, trace_of}
+use Rattle.trace_reader.specs.Grammar.{nothing, after_trace_lines, lines_read, config_of, trace_of}
 use Rattle.trace_reader.specs.Lines.{SoFar, has_descriptor}
 use Rattle.text_lexer.specs.Lines.{input_limit, is_newline, lines_from}
-use Rattle.trace_reader.specs.LineTexts.{header, hexadecimal, prot_word, line_text_by, text_by}
+use Rattle.trace_reader.specs.LineTexts.{header, hexadecimal_text, prot_word, line_text_by, text_by}
 use Rattle.trace_reader.proofs.Numerals.{length-address, length-number, length-hexadecimal}
 use Rattle.trace_reader.proofs.OperationLines.{IsNumberWord, decimal_is_word, hexadecimal_is_word, mapping_read_from}
 use Rattle.trace_reader.proofs.LinesRead.{IsReadableBy, AreNumberedFrom, with_lines, length-text, after_more, after_all, lines_read-header, trace_of-read}
 use Rattle.maps_read.specs.declared.maps.MapsLine.{MapsLine}
 use Rattle.maps_read.specs.FileLines.{file_text, file_texts, files_opened}
-use Rattle.maps_read.specs.Mappings.{descriptor_of, flags_of, mapping_of, offset_word, mapped_words, mapping_line, mapping_lines, mapping_text}
+use Rattle.maps_read.specs.Mappings.{descriptor_of, mapping_flags, mapping_of, offset_word, mapped_words, mapping_line, mapping_lines, mapping_text}
 use Rattle.maps_read.proofs.FileReading.{with_files, opens_behind, opens_short}
 use Rattle.maps_read.proofs.Mapped.{flags_say}
 use Rattle.maps_read.proofs.OpenFiles.{other_number}
@@ -135,13 +135,13 @@ files_short fd (line ∷ named) [] are = absurd are
 pub files_read : (fd : ℕ) (named : List MapsLine) (opened : List (List FileRow)) (so_far : SoFar) (number start : ℕ) (rest : List ℕ)
     → AreFilesOf fd named opened → so_far.lines ≡ [] → Each (HasFdBelow fd) so_far.files → length so_far.files + length named ≤ 1024
     → 1 < number → start + length (file_texts fd named) ≤ input_limit
-    → after_lines so_far (lines_from number start (file_texts fd named ++ rest))
-    ≡ after_lines (with_files so_far (all_files opened)) (lines_from (number + length named) (start + length (file_texts fd named)) rest)
+    → after_trace_lines so_far (lines_from number start (file_texts fd named ++ rest))
+    ≡ after_trace_lines (with_files so_far (all_files opened)) (lines_from (number + length named) (start + length (file_texts fd named)) rest)
 unfolding file_texts
 files_read fd [] [] so_far number start rest are before below few later within =
-    ap (λ (n : ℕ). after_lines so_far (lines_from n start rest)) (let e : number ≡ number + 0 = omega arith in e)
-    ∙ ap (λ (n : ℕ). after_lines so_far (lines_from (number + 0) n rest)) (let e : start ≡ start + 0 = omega arith in e)
-    ∙ ap (λ (files : List FileRow). after_lines (record so_far { files = files }) (lines_from (number + 0) (start + 0) rest)) (sym (append-nil so_far.files))
+    ap (λ (n : ℕ). after_trace_lines so_far (lines_from n start rest)) (let e : number ≡ number + 0 = omega arith in e)
+    ∙ ap (λ (n : ℕ). after_trace_lines so_far (lines_from (number + 0) n rest)) (let e : start ≡ start + 0 = omega arith in e)
+    ∙ ap (λ (files : List FileRow). after_trace_lines (record so_far { files = files }) (lines_from (number + 0) (start + 0) rest)) (sym (append-nil so_far.files))
 files_read fd (line ∷ named) (files ∷ opened) so_far number start rest are before below few later within =
     let one = one_file fd files are.0.one in
     let file = one.file in
@@ -157,17 +157,17 @@ files_read fd (line ∷ named) (files ∷ opened) so_far number start rest are b
     let next = with_files so_far (file ∷ []) in
     let reads = opens_behind so_far file number start front before new (omega arith) later (omega arith) single opens in
     let more = length-append so_far.files (file ∷ []) in
-    ap (λ (bytes : List ℕ). after_lines so_far (lines_from number start bytes)) (append_assoc (file_text fd line) others rest
+    ap (λ (bytes : List ℕ). after_trace_lines so_far (lines_from number start bytes)) (append_assoc (file_text fd line) others rest
     ∙ ap (λ (t : List ℕ). t ++ (others ++ rest)) text)
     ∙ after_more so_far next number start front (others ++ rest) single reads
     ∙ files_read (fd + 1) named opened next (number + 1) (start + length front + 1) rest are.1 before
     (below_more so_far.files fd file below one.open_as.fd) (omega arith) (omega arith) (omega arith)
-    ∙ ap (λ (all : List FileRow). after_lines (record so_far { files = all })
+    ∙ ap (λ (all : List FileRow). after_trace_lines (record so_far { files = all })
     (lines_from (number + 1 + length named) (start + length front + 1 + length others) rest))
     (append_assoc so_far.files (file ∷ []) (all_files opened) ∙ ap (λ (f : List FileRow). so_far.files ++ (f ++ all_files opened)) (sym one.is))
-    ∙ ap (λ (n : ℕ). after_lines (with_files so_far (files ++ all_files opened)) (lines_from n (start + length front + 1 + length others) rest))
+    ∙ ap (λ (n : ℕ). after_trace_lines (with_files so_far (files ++ all_files opened)) (lines_from n (start + length front + 1 + length others) rest))
     (let e : number + 1 + length named ≡ number + length (line ∷ named) = omega arith in e)
-    ∙ ap (λ (n : ℕ). after_lines (with_files so_far (files ++ all_files opened)) (lines_from (number + length (line ∷ named)) n rest))
+    ∙ ap (λ (n : ℕ). after_trace_lines (with_files so_far (files ++ all_files opened)) (lines_from (number + length (line ∷ named)) n rest))
     (let e : start + length front + 1 + length others ≡ start + length (file_text fd line ++ others) = omega arith in e)
 files_read fd [] (files ∷ opened) so_far number start rest are before below few later within = absurd are
 files_read fd (line ∷ named) [] so_far number start rest are before below few later within = absurd are
@@ -219,13 +219,13 @@ offset_read area valid =
     let say = flags_say area in
     let small = small_offset area valid in
     record {
-      reads = cond_both (has_flag (flags_of area) MAP_ANONYMOUS) (codes "0") (hexadecimal (PAGE_SIZE * area.offset))
+      reads = cond_both (has_flag (mapping_flags area) MAP_ANONYMOUS) (codes "0") (hexadecimal_text (PAGE_SIZE * area.offset))
           (IsNumberWord (PAGE_SIZE * area.offset))
           (λ is. let none : area.offset ≡ 0 = (valid.anonymous (eqb-true area.object 0 (sym say.anonymous ∙ is))).0 in
           subst (λ (n : ℕ). IsNumberWord n (codes "0")) (let e : 0 ≡ PAGE_SIZE * area.offset = omega arith in e)
           (subst (IsNumberWord 0) (decimal_digit 0 (omega arith)) (decimal_is_word 0 (omega arith))))
           (λ _. hexadecimal_is_word (PAGE_SIZE * area.offset) (omega arith));
-      short = cond_both (has_flag (flags_of area) MAP_ANONYMOUS) (codes "0") (hexadecimal (PAGE_SIZE * area.offset))
+      short = cond_both (has_flag (mapping_flags area) MAP_ANONYMOUS) (codes "0") (hexadecimal_text (PAGE_SIZE * area.offset))
           (λ (word : List ℕ). length word ≤ 18) (λ _. omega arith) (λ _. length-hexadecimal (PAGE_SIZE * area.offset) (omega arith));
     }
 
@@ -315,7 +315,7 @@ module _ (named : List MapsLine) (opened : List (List FileRow)) (areas : List Re
       let all = lines_short (2 + length named) areas shown in
       lines_read-header (file_texts 3 named ++ text)
       ∙ files_read 3 named opened nothing 2 11 text files refl tt (omega arith) (omega arith) (omega arith)
-      ∙ ap (λ (bytes : List ℕ). after_lines (with_files nothing (all_files opened)) (lines_from (2 + length named) (11 + length (file_texts 3 named)) bytes))
+      ∙ ap (λ (bytes : List ℕ). after_trace_lines (with_files nothing (all_files opened)) (lines_from (2 + length named) (11 + length (file_texts 3 named)) bytes))
       (lines_text (2 + length named) areas)
       ∙ after_all mapped_words lines (2 + length named) (11 + length (file_texts 3 named)) (with_files nothing (all_files opened)) (omega arith)
       (lines_numbered (2 + length named) areas) (lines_readable (2 + length named) areas shown) (omega arith) (omega arith)

@@ -16,8 +16,8 @@ use Rattle.text_lexer.specs.Causes.{◌>>=◌}
 use Rattle.text_lexer.specs.BadLines.{at_line}
 use Rattle.text_lexer.specs.Lines.{RawLine}
 use Rattle.maps_read.specs.declared.maps.MapsLine.{MapsLine}
-use Rattle.maps_read.specs.FileLines.{same_file, file_place, file_text, files_opened, are_one_file}
-use Rattle.maps_read.specs.Retracing.{Taken, nothing_taken, files_taken, area_of, areas_with, with_area, with_next_file, with_file_at, with_file, file_at, with_line, with_lines}
+use Rattle.maps_read.specs.FileLines.{same_file, first_line_of_file, file_text, files_opened, are_one_file}
+use Rattle.maps_read.specs.Retracing.{Taken, nothing_taken, files_taken, area_of, areas_with, with_area, with_next_file, with_file_at, with_file_taken, file_at, with_line_taken, with_lines}
 use Rattle.maps_read.proofs.Following.{stays_sound, none_sound}
 use Rattle.maps_read.proofs.Kept.{same_ok, passed, bound_ok, ours}
 use Rattle.maps_read.proofs.Mapped.{IsMapped}
@@ -268,11 +268,11 @@ next_walked taken next line done is single e =
 
 -- with the file of a line
 file_walked : (taken : Taken) (found : Taken × ℕ) (line : MapsLine) (done : List RawLine) → IsWalked taken done → IsSingle line.name
-    → with_file taken line ≡ Ok found → IsWalked found.0 done × (found.1 < length found.0.opened)
-unfolding with_file
-file_walked taken found line done is single e = by_place (file_place taken.named line) refl e
+    → with_file_taken taken line ≡ Ok found → IsWalked found.0 done × (found.1 < length found.0.opened)
+unfolding with_file_taken
+file_walked taken found line done is single e = by_place (first_line_of_file taken.named line) refl e
   where
-    by_place : (place : Option ℕ) → file_place taken.named line ≡ place → with_file_at taken place line ≡ Ok found
+    by_place : (place : Option ℕ) → first_line_of_file taken.named line ≡ place → with_file_at taken place line ≡ Ok found
         → IsWalked found.0 done × (found.1 < length found.0.opened)
     by_place (Some place) at e =
         let within = (position-Some (λ other. same_file other line) taken.named place line at).0 in
@@ -286,14 +286,14 @@ file_walked taken found line done is single e = by_place (file_place taken.named
 
 -- with a line
 line_walked : (taken next : Taken) (line : MapsLine) (raw : RawLine) (done : List RawLine) → IsWalked taken done → IsSingle line.name
-    → with_line taken line raw.text ≡ Ok next → IsWalked next (done ++ raw ∷ [])
-unfolding with_line
+    → with_line_taken taken line raw.text ≡ Ok next → IsWalked next (done ++ raw ∷ [])
+unfolding with_line_taken
 line_walked taken next line raw done is single e =
     cond_both (nat_eq (length line.name) 0) (with_area taken [] 0 line raw.text)
-    (with_file taken line >>= λ found. with_area found.0 (file_at found.0 found.1) (found.1 + 1) line raw.text)
+    (with_file_taken taken line >>= λ found. with_area found.0 (file_at found.0 found.1) (found.1 + 1) line raw.text)
     (λ read. read ≡ Ok next → IsWalked next (done ++ raw ∷ []))
     (λ _ e. area_walked taken next [] 0 line raw done is (omega arith) (none_text (files_taken taken) line) e)
-    (λ _ e. let found = bound_ok (with_file taken line) (λ found. with_area found.0 (file_at found.0 found.1) (found.1 + 1) line raw.text) next e in
+    (λ _ e. let found = bound_ok (with_file_taken taken line) (λ found. with_area found.0 (file_at found.0 found.1) (found.1 + 1) line raw.text) next e in
     let walked = file_walked taken found.0 line done is single found.1 in
     let mid = found.0.0 in let place = found.0.1 in
     let within = walked.1 in
@@ -312,10 +312,10 @@ pub lines_walked : (taken last : Taken) (raws done : List RawLine) (lines : List
 lines_walked taken last [] done [] is are single e =
     subst (λ (t : Taken). IsWalked t (done ++ [])) (same_ok taken last e) (subst (IsWalked taken) (sym (append-nil done)) is)
 lines_walked taken last (raw ∷ raws) done (line ∷ lines) is are single e = by_first
-    (λ next walked. lines_walked next last raws (done ++ raw ∷ []) lines walked are.1 single.1) (with_line taken line raw.text) refl e
+    (λ next walked. lines_walked next last raws (done ++ raw ∷ []) lines walked are.1 single.1) (with_line_taken taken line raw.text) refl e
   where
     by_first : ((next : Taken) → IsWalked next (done ++ raw ∷ []) → with_lines next raws lines ≡ Ok last → IsWalked last ((done ++ raw ∷ []) ++ raws))
-        → (first : Result Taken Cause) → with_line taken line raw.text ≡ first
+        → (first : Result Taken Cause) → with_line_taken taken line raw.text ≡ first
         → at_line raw.number first (λ next. with_lines next raws lines) ≡ Ok last → IsWalked last (done ++ raw ∷ raws)
     by_first others (Ok next) first e =
         subst (IsWalked last) (append_assoc done (raw ∷ []) raws)

@@ -24,24 +24,24 @@ behind_words zero text = text
 behind_words (suc count) text = behind_words count (behind (byte " ") text)
 
 -- the word of a line that has so many words before it
-abbrev pub word : ℕ → List ℕ → List ℕ
-word place text = front (byte " ") (behind_words place text)
+abbrev pub word_behind : ℕ → List ℕ → List ℕ
+word_behind place text = front (byte " ") (behind_words place text)
 
 -- no space
-abbrev pub is_part : ℕ → Bool
-is_part c = not (nat_eq c (byte " "))
+abbrev pub is_no_space : ℕ → Bool
+is_no_space c = not (nat_eq c (byte " "))
 
 -- how many spaces a text begins with
 unfoldable pub leading_spaces : List ℕ → ℕ
-leading_spaces text = position_or_len is_part text
+leading_spaces text = position_or_len is_no_space text
 
 -- a text without the spaces that it begins with
 unfoldable pub without_leading_spaces : List ℕ → List ℕ
 without_leading_spaces text = drop (leading_spaces text) text
 
 -- a number of 1 to so many digits of lower-case hexadecimal
-unfoldable pub hexadecimal : ℕ → List ℕ → Result ℕ Cause
-hexadecimal most word = ok_or (lower_hexadecimal_of most word) causes.MapsLine
+unfoldable pub read_hexadecimal : ℕ → List ℕ → Result ℕ Cause
+read_hexadecimal most word = ok_or (lower_hexadecimal_of most word) causes.MapsLine
 
 -- a number of 1 to 20 decimal digits, below 2^64
 unfoldable pub decimal : List ℕ → Result ℕ Cause
@@ -50,34 +50,34 @@ decimal word = ok_or (decimal_of word) causes.MapsLine
 -- the addresses of a line, `<lo>-<hi>`
 unfoldable pub bounds : List ℕ → Result (ℕ × ℕ) Cause
 bounds word = do
-  lo ← hexadecimal 16 (front (byte "-") word)
-  hi ← hexadecimal 16 (behind (byte "-") word)
+  lo ← read_hexadecimal 16 (front (byte "-") word)
+  hi ← read_hexadecimal 16 (behind (byte "-") word)
   Ok (lo, hi)
 
 -- the number of a device, `<major>:<minor>`
-unfoldable pub device : List ℕ → Result (ℕ × ℕ) Cause
-device word = do
-  major ← hexadecimal 8 (front (byte ":") word)
-  minor ← hexadecimal 8 (behind (byte ":") word)
+unfoldable pub read_maps_device : List ℕ → Result (ℕ × ℕ) Cause
+read_maps_device word = do
+  major ← read_hexadecimal 8 (front (byte ":") word)
+  minor ← read_hexadecimal 8 (behind (byte ":") word)
   Ok (major, minor)
 
 -- one of two letters: whether it is the first of them
-unfoldable pub letter : ℕ → ℕ → ℕ → Result Bool Cause
-letter set unset c = if nat_eq c set then Ok true else (if nat_eq c unset then Ok false else Err causes.MapsLine)
+unfoldable pub read_letter : ℕ → ℕ → ℕ → Result Bool Cause
+read_letter set unset c = if nat_eq c set then Ok true else (if nat_eq c unset then Ok false else Err causes.MapsLine)
 
 -- what is allowed, and whether it is shared: four letters
-unfoldable pub perms : List ℕ → Result (Prot × Bool) Cause
-perms (r ∷ w ∷ x ∷ s ∷ []) = do
-  read ← letter (byte "r") (byte "-") r
-  write ← letter (byte "w") (byte "-") w
-  exec ← letter (byte "x") (byte "-") x
-  shared ← letter (byte "s") (byte "p") s
+unfoldable pub read_perms : List ℕ → Result (Prot × Bool) Cause
+read_perms (r ∷ w ∷ x ∷ s ∷ []) = do
+  read ← read_letter (byte "r") (byte "-") r
+  write ← read_letter (byte "w") (byte "-") w
+  exec ← read_letter (byte "x") (byte "-") x
+  shared ← read_letter (byte "s") (byte "p") s
   Ok (record { read = read; write = write; exec = exec }, shared)
-perms _ = Err causes.MapsLine
+read_perms _ = Err causes.MapsLine
 
 -- the line of these numbers and this name
-abbrev pub with_name : LineNumbers → List ℕ → MapsLine
-with_name numbers name = record {
+abbrev pub with_line_name : LineNumbers → List ℕ → MapsLine
+with_line_name numbers name = record {
   lo = numbers.lo;
   hi = numbers.hi;
   prot = numbers.prot;
@@ -90,16 +90,16 @@ with_name numbers name = record {
 }
 
 -- the line of these words and this name
-unfoldable pub line_of_words : List ℕ → List ℕ → List ℕ → List ℕ → List ℕ → List ℕ → Result MapsLine Cause
-line_of_words addresses letters start numbers node name = do
+unfoldable pub maps_line_of_words : List ℕ → List ℕ → List ℕ → List ℕ → List ℕ → List ℕ → Result MapsLine Cause
+maps_line_of_words addresses letters start numbers node name = do
   b ← bounds addresses
-  p ← perms letters
-  offset ← hexadecimal 16 start
-  d ← device numbers
+  p ← read_perms letters
+  offset ← read_hexadecimal 16 start
+  d ← read_maps_device numbers
   inode ← decimal node
   Ok (record { lo = b.0; hi = b.1; prot = p.0; shared = p.1; offset = offset; major = d.0; minor = d.1; inode = inode; name = name })
 
 -- what a line says: five words with one space after each but the last, and a name after the spaces that follow that one, if there are any
-unfoldable pub line_of : List ℕ → Result MapsLine Cause
-line_of text = line_of_words (word 0 text) (word 1 text) (word 2 text) (word 3 text) (word 4 text)
+unfoldable pub read_maps_line : List ℕ → Result MapsLine Cause
+read_maps_line text = maps_line_of_words (word_behind 0 text) (word_behind 1 text) (word_behind 2 text) (word_behind 3 text) (word_behind 4 text)
     (without_leading_spaces (behind_words 5 text))

@@ -14,8 +14,8 @@ abbrev pub same_file : MapsLine → MapsLine → Bool
 same_file a b = nat_eq a.major b.major && (nat_eq a.minor b.minor && (nat_eq a.inode b.inode && bytes_eq a.name b.name))
 
 -- the place among lines of the one that shows the file of this one
-abbrev pub file_place : List MapsLine → MapsLine → Option ℕ
-file_place named line = position (λ other. same_file other line) named
+abbrev pub first_line_of_file : List MapsLine → MapsLine → Option ℕ
+first_line_of_file named line = position (λ other. same_file other line) named
 
 -- the line that opens the file of a line under this descriptor, to be read and written, as large as a file may be
 unfoldable pub file_text : ℕ → MapsLine → List ℕ

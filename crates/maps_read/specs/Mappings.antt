@@ -11,7 +11,7 @@ use Rattle.mm_types.specs.Flags.{has_flag}
 use Rattle.trace_reader.specs.declared.trace.Op.{Op}
 use Rattle.trace_reader.specs.declared.trace.Op.TheVariants as ops
 use Rattle.trace_reader.specs.declared.trace.TraceLine.{TraceLine}
-use Rattle.trace_reader.specs.LineTexts.{hexadecimal, mapping_words, call_words, op_words, line_text_by}
+use Rattle.trace_reader.specs.LineTexts.{hexadecimal_text, mapping_words, call_words, op_words, line_text_by}
 use Rattle.maps_read.specs.declared.file_lines.TheConstants.{FIRST_DESCRIPTOR}
 
 -- the descriptor of an object: memory without a file has none, and files have those from the first on, in their order
@@ -20,8 +20,8 @@ descriptor_of zero = negsuc 0
 descriptor_of (suc place) = pos (FIRST_DESCRIPTOR + place)
 
 -- exactly at its address, shared or private, and without a file where it maps none
-unfoldable pub flags_of : Record → ℕ
-flags_of area = bit_or (if area.attr.shared then MAP_SHARED else MAP_PRIVATE)
+unfoldable pub mapping_flags : Record → ℕ
+mapping_flags area = bit_or (if area.attr.shared then MAP_SHARED else MAP_PRIVATE)
     (bit_or MAP_FIXED (if nat_eq area.object 0 then MAP_ANONYMOUS else 0))
 
 -- the mmap(2) that maps an area
@@ -30,14 +30,14 @@ mapping_of area = record {
   addr = PAGE_SIZE * area.span.lo;
   len = PAGE_SIZE * (area.span.hi - area.span.lo);
   prot = area.attr.prot;
-  flags = flags_of area;
+  flags = mapping_flags area;
   fd = descriptor_of area.object;
   offset = PAGE_SIZE * area.offset;
 }
 
 -- an offset in hexadecimal, or `0` where no file is mapped
 unfoldable pub offset_word : MmapArgs → List ℕ
-offset_word args = if has_flag args.flags MAP_ANONYMOUS then codes "0" else hexadecimal args.offset
+offset_word args = if has_flag args.flags MAP_ANONYMOUS then codes "0" else hexadecimal_text args.offset
 
 -- the words of a call: as elsewhere, but for the offset of an mmap(2)
 abbrev pub mapped_call_words : Call → List (List ℕ)

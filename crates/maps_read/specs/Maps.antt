@@ -8,7 +8,7 @@ use Rattle.text_lexer.specs.BadLines.{lines_leave}
 use Rattle.text_lexer.specs.Lines.{input_limit, RawLine, raw_lines, text_within}
 use Rattle.maps_read.specs.declared.maps.MapsLine.{MapsLine}
 use Rattle.maps_read.specs.declared.reading.TheConstants.{MAPS_LINE_LIMIT}
-use Rattle.maps_read.specs.Fields.{line_of}
+use Rattle.maps_read.specs.Fields.{read_maps_line}
 
 -- fewer than 2^32 lines; each begins below its end, and not below the end of a line before it
 pub record IsMaps (lines : List MapsLine) : Type 0 where
@@ -22,26 +22,26 @@ hi_or_zero None = 0
 hi_or_zero (Some line) = line.hi
 
 -- where the last of these lines ends, and 0 where there is none
-abbrev pub end_of : List MapsLine → ℕ
-end_of lines = hi_or_zero (slice_get lines (length lines - 1))
+abbrev pub lines_end : List MapsLine → ℕ
+lines_end lines = hi_or_zero (slice_get lines (length lines - 1))
 
 -- whether a line begins below its end, and not below the end of the lines before it
 abbrev pub is_in_order : ℕ → MapsLine → Bool
 is_in_order end line = nat_lt line.lo line.hi && nat_le end line.lo
 
 -- the line that a raw line is, behind lines that end here
-unfoldable pub next_line : ℕ → RawLine → Result MapsLine Cause
-next_line end raw = do
+unfoldable pub next_maps_line : ℕ → RawLine → Result MapsLine Cause
+next_maps_line end raw = do
   text ← text_within MAPS_LINE_LIMIT input_limit raw
-  line ← line_of text
+  line ← read_maps_line text
   if is_in_order end line then Ok line else Err MapsOrder
 
 -- the lines so far, and a raw line behind them
-unfoldable pub after_line : List MapsLine → RawLine → Result (List MapsLine) Cause
-after_line before raw = do
-  line ← next_line (end_of before) raw
+unfoldable pub after_maps_line : List MapsLine → RawLine → Result (List MapsLine) Cause
+after_maps_line before raw = do
+  line ← next_maps_line (lines_end before) raw
   Ok (before ++ line ∷ [])
 
 -- the lines of a maps text, or its first bad line and the cause
 unfoldable pub maps_of : List ℕ → Result (List MapsLine) BadLine
-maps_of bytes = lines_leave after_line [] (raw_lines bytes)
+maps_of bytes = lines_leave after_maps_line [] (raw_lines bytes)

@@ -1,19 +1,14 @@
 -- Which line an address asks for, and what is printed for it.
-use Rattle.std.specs.Prelude.{ℕ, ◌-◌, ◌++◌, List, length, take, codes, nat_eq, nat_lt, position, slice_get, Option, Some, None, Result, Ok, Err}
-use Rattle.std.specs.List.{suffix_len}
-use Rattle.std.specs.Str.{byte}
+use Rattle.std.specs.Prelude.{ℕ, ◌++◌, List, codes, nat_lt, position, slice_get, Option, Some, None, Result, Ok, Err}
 use Rattle.text_lexer.specs.declared.error.BadLine.{BadLine}
 use Rattle.text_lexer.specs.Lines.{RawLine, raw_lines}
+use Rattle.maps_print.specs.Trimmed.{without_spaces_after}
 use Rattle.maps_read.specs.declared.maps.MapsLine.{MapsLine}
 use Rattle.maps_read.specs.Maps.{maps_of}
 
 -- the place, counted from 0, of the first line that ends above an address: the line covers the address, or is the next one
 abbrev pub first_above : ℕ → List MapsLine → Option ℕ
 first_above address lines = position (λ line. nat_lt address line.hi) lines
-
--- a text without the spaces at its end
-unfoldable pub without_spaces_after : List ℕ → List ℕ
-without_spaces_after text = take (length text - suffix_len (λ c. nat_eq c (byte " ")) text) text
 
 -- a line as it stands in the bytes, without the spaces at its end, or `none`
 abbrev pub shown_line : Option RawLine → List ℕ
@@ -30,10 +25,10 @@ unfoldable pub query_text : List ℕ → Option ℕ → List ℕ
 query_text bytes place = shown_line (raw_line_at bytes place) ++ codes "\n"
 
 -- what is printed for an address and the lines of these bytes
-abbrev pub answered : ℕ → List ℕ → Result (List MapsLine) BadLine → Result (List ℕ) BadLine
-answered address bytes (Ok lines) = Ok (query_text bytes (first_above address lines))
-answered address bytes (Err first) = Err first
+abbrev pub printed_for : ℕ → List ℕ → Result (List MapsLine) BadLine → Result (List ℕ) BadLine
+printed_for address bytes (Ok lines) = Ok (query_text bytes (first_above address lines))
+printed_for address bytes (Err first) = Err first
 
 -- what is printed for an address and the maps text that the bytes are, or its first bad line and the cause
 unfoldable pub query_answer : ℕ → List ℕ → Result (List ℕ) BadLine
-query_answer address bytes = answered address bytes (maps_of bytes)
+query_answer address bytes = printed_for address bytes (maps_of bytes)

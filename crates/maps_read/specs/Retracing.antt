@@ -17,7 +17,7 @@ use Rattle.maps_read.specs.declared.maps.MapsLine.{MapsLine}
 use Rattle.maps_read.specs.Maps.{maps_of}
 use Rattle.maps_read.specs.declared.file_lines.TheConstants.{FIRST_DESCRIPTOR}
 use Rattle.trace_reader.specs.LineTexts.{header}
-use Rattle.maps_read.specs.FileLines.{file_place, file_text, file_texts, files_opened, are_one_file}
+use Rattle.maps_read.specs.FileLines.{first_line_of_file, file_text, file_texts, files_opened, are_one_file}
 use Rattle.maps_read.specs.Mappings.{mapping_text}
 
 -- What was taken of the lines so far: those that show a file first, for each the files that its line of the trace opens, which are one,
@@ -92,21 +92,21 @@ with_file_at taken (Some place) line = Ok (taken, place)
 with_file_at taken None line = with_next_file taken line >>= λ next. Ok (next, length taken.named)
 
 -- the same, where its place is found by what the lines so far show
-unfoldable pub with_file : Taken → MapsLine → Result (Taken × ℕ) Cause
-with_file taken line = with_file_at taken (file_place taken.named line) line
+unfoldable pub with_file_taken : Taken → MapsLine → Result (Taken × ℕ) Cause
+with_file_taken taken line = with_file_at taken (first_line_of_file taken.named line) line
 
 -- the one file at a place
 abbrev pub file_at : Taken → ℕ → List FileRow
 file_at taken place = unwrap_or (slice_get taken.opened place) []
 
 -- with a line and its text: without a name it shows no file, and maps object 0; else it maps its file, the first of which is object 1
-unfoldable pub with_line : Taken → MapsLine → List ℕ → Result Taken Cause
-with_line taken line text = if nat_eq (length line.name) 0 then with_area taken [] 0 line text
-    else (with_file taken line >>= λ found. with_area found.0 (file_at found.0 found.1) (found.1 + 1) line text)
+unfoldable pub with_line_taken : Taken → MapsLine → List ℕ → Result Taken Cause
+with_line_taken taken line text = if nat_eq (length line.name) 0 then with_area taken [] 0 line text
+    else (with_file_taken taken line >>= λ found. with_area found.0 (file_at found.0 found.1) (found.1 + 1) line text)
 
 -- with lines, each with its text, or the first that is not ours
 abbrev pub with_lines : Taken → List RawLine → List MapsLine → Result Taken BadLine
-with_lines taken (raw ∷ raws) (line ∷ lines) = at_line raw.number (with_line taken line raw.text) (λ next. with_lines next raws lines)
+with_lines taken (raw ∷ raws) (line ∷ lines) = at_line raw.number (with_line_taken taken line raw.text) (λ next. with_lines next raws lines)
 with_lines taken _ _ = Ok taken
 
 -- the trace of what was taken: the header, a line for each file, and a line for each area

@@ -4,12 +4,13 @@ ghost use Rattle.std.specs.Prelude.{◌≡◌, ◌<◌, IfOk, IfErr, IfSome, Ok,
 ghost use Rattle.text_lexer.specs.Lines.{raw_lines};
 ghost use Rattle.text_lexer.specs.declared.error.BadLine.{BadLine};
 ghost use Rattle.maps_read.specs.Maps.{maps_of};
-ghost use Rattle.maps_read.specs.Query.{query_answer, query_text, without_spaces_after};
+ghost use Rattle.maps_read.specs.Query.{query_answer, query_text};
 ghost use Rattle.text_lexer.specs.Reading.{IsErrorOf};
 
 use crate::maps::MapsText;
 use crate::querying::query;
 use crate::reading::read_maps;
+use maps_print::without_spaces_after;
 use mm_types::{NoMemory, Steps};
 use std::alloc::Global;
 use text_lexer::{ReadError, first_line};
@@ -79,16 +80,4 @@ fn text_at(bytes: &[u8], place: u32) -> &[u8]
     }
     let (line, _) = first_line(rest, u64::from(place) + 1, bytes.len() - rest.len());
     line.text
-}
-
-/// A text without the spaces at its end.
-#[tactic(auto, unfolding(crate::specs::Query::without_spaces_after))]
-fn without_spaces_after(text: &[u8]) -> &[u8]
-    ensures { result.now ≡ without_spaces_after text.now }
-{
-    let mut len = text.len();
-    while 0 < len && text[len - 1] == b' ' {
-        len -= 1;
-    }
-    &text[..len]
 }

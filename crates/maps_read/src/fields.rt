@@ -1,8 +1,8 @@
 //! What the text of a line says.
 
 ghost use Rattle.std.specs.Prelude.{ℕ, ◌≡◌, ◌<◌, ◌≤◌, List};
-ghost use Rattle.text_lexer.specs.Reading.{Reads};
-ghost use Rattle.maps_read.specs.Fields.{front, behind, leading_spaces, without_leading_spaces, hexadecimal, decimal, bounds, device, letter, perms, line_of_words, line_of, with_name};
+ghost use Rattle.text_lexer.specs.Reading.{ReadsAs};
+ghost use Rattle.maps_read.specs.Fields.{front, behind, leading_spaces, without_leading_spaces, read_hexadecimal, decimal, bounds, read_maps_device, read_letter, read_perms, maps_line_of_words, read_maps_line, with_line_name};
 
 use crate::maps::MapsLine;
 use mm_types::{Prot, Text};
@@ -37,9 +37,9 @@ fn without_leading_spaces(text: &str) -> &str
 }
 
 /// A number of 1 to so many digits of lower-case hexadecimal.
-#[tactic(auto, unfolding(crate::specs::Fields::hexadecimal))]
+#[tactic(auto, unfolding(crate::specs::Fields::read_hexadecimal))]
 fn hexadecimal(word: &str, most: usize) -> Result<u64, Cause>
-    ensures { Reads (λ n. n) result (hexadecimal most word.now) }
+    ensures { ReadsAs (λ n. n) result (read_hexadecimal most word.now) }
 {
     lower_hexadecimal_of(word, most).ok_or(Cause::MapsLine)
 }
@@ -47,7 +47,7 @@ fn hexadecimal(word: &str, most: usize) -> Result<u64, Cause>
 /// A number of 1 to 20 decimal digits, below 2^64.
 #[tactic(auto, unfolding(crate::specs::Fields::decimal))]
 fn decimal(word: &str) -> Result<u64, Cause>
-    ensures { Reads (λ n. n) result (decimal word.now) }
+    ensures { ReadsAs (λ n. n) result (decimal word.now) }
 {
     decimal_of(word).ok_or(Cause::MapsLine)
 }
@@ -55,7 +55,7 @@ fn decimal(word: &str) -> Result<u64, Cause>
 /// The addresses of a line, `<lo>-<hi>`.
 #[tactic(auto, unfolding(crate::specs::Fields::bounds))]
 fn bounds(word: &str) -> Result<(u64, u64), Cause>
-    ensures { Reads (λ pair. (pair.0, pair.1)) result (bounds word.now) }
+    ensures { ReadsAs (λ pair. (pair.0, pair.1)) result (bounds word.now) }
 {
     let (lo, hi) = cut(word, '-');
     let lo = hexadecimal(lo, 16)?;
@@ -65,16 +65,16 @@ fn bounds(word: &str) -> Result<(u64, u64), Cause>
 
 /// A half of the number of a device.
 fn device_part(word: &str) -> Result<u32, Cause>
-    ensures { Reads (λ n. n) result (hexadecimal 8 word.now) }
+    ensures { ReadsAs (λ n. n) result (read_hexadecimal 8 word.now) }
 {
     let part = hexadecimal(word, 8)?;
     Ok(part as u32)
 }
 
 /// The major and the minor half of the number of a device.
-#[tactic(auto, unfolding(crate::specs::Fields::device))]
+#[tactic(auto, unfolding(crate::specs::Fields::read_maps_device))]
 fn device(word: &str) -> Result<(u32, u32), Cause>
-    ensures { Reads (λ pair. (pair.0, pair.1)) result (device word.now) }
+    ensures { ReadsAs (λ pair. (pair.0, pair.1)) result (read_maps_device word.now) }
 {
     let (major, minor) = cut(word, ':');
     let major = device_part(major)?;
@@ -83,9 +83,9 @@ fn device(word: &str) -> Result<(u32, u32), Cause>
 }
 
 /// One of two letters: whether it is the first of them.
-#[tactic(auto, unfolding(crate::specs::Fields::letter))]
+#[tactic(auto, unfolding(crate::specs::Fields::read_letter))]
 fn letter(byte: u8, set: u8, unset: u8) -> Result<bool, Cause>
-    ensures { Reads (λ allowed. allowed) result (letter set unset byte) }
+    ensures { ReadsAs (λ allowed. allowed) result (read_letter set unset byte) }
 {
     if byte == set {
         Ok(true)
@@ -97,9 +97,9 @@ fn letter(byte: u8, set: u8, unset: u8) -> Result<bool, Cause>
 }
 
 /// What is allowed, and whether it is shared: four letters.
-#[tactic(auto, unfolding(crate::specs::Fields::perms))]
+#[tactic(auto, unfolding(crate::specs::Fields::read_perms))]
 fn perms(word: &str) -> Result<(Prot, bool), Cause>
-    ensures { Reads (λ pair. (pair.0, pair.1)) result (perms word.now) }
+    ensures { ReadsAs (λ pair. (pair.0, pair.1)) result (read_perms word.now) }
 {
     match word.as_bytes() {
         [read, write, exec, sharing] => {
@@ -130,7 +130,7 @@ pub(crate) struct LineNumbers {
 
 /// The line of these numbers and this name.
 pub(crate) fn with_name(numbers: LineNumbers, name: Text) -> MapsLine
-    ensures { result ≡ with_name numbers name }
+    ensures { result ≡ with_line_name numbers name }
 {
     MapsLine {
         lo: numbers.lo,
@@ -146,7 +146,7 @@ pub(crate) fn with_name(numbers: LineNumbers, name: Text) -> MapsLine
 }
 
 /// The numbers of these words, whatever the name of their line is.
-#[tactic(auto, unfolding(crate::specs::Fields::line_of_words))]
+#[tactic(auto, unfolding(crate::specs::Fields::maps_line_of_words))]
 fn numbers_of_words(
     addresses: &str,
     letters: &str,
@@ -154,8 +154,8 @@ fn numbers_of_words(
     numbers: &str,
     node: &str,
 ) -> Result<LineNumbers, Cause>
-    ensures { (name : List ℕ) → Reads (λ found. with_name found name) result
-        (line_of_words addresses.now letters.now start.now numbers.now node.now name) }
+    ensures { (name : List ℕ) → ReadsAs (λ found. with_line_name found name) result
+        (maps_line_of_words addresses.now letters.now start.now numbers.now node.now name) }
 {
     let (lo, hi) = bounds(addresses)?;
     let (prot, shared) = perms(letters)?;
@@ -175,9 +175,9 @@ fn numbers_of_words(
 }
 
 /// What the text of a line says: its numbers, and its name where it stands in the text.
-#[tactic(auto, unfolding(crate::specs::Fields::line_of))]
+#[tactic(auto, unfolding(crate::specs::Fields::read_maps_line))]
 pub(crate) fn line_of(text: &str) -> Result<(LineNumbers, &str), Cause>
-    ensures { Reads (λ found. with_name found.0 found.1.now) result (line_of text.now) }
+    ensures { ReadsAs (λ found. with_line_name found.0 found.1.now) result (read_maps_line text.now) }
 {
     let (addresses, rest) = cut(text, ' ');
     let (letters, rest) = cut(rest, ' ');

@@ -5,13 +5,13 @@ ghost use Rattle.text_lexer.specs.Lines.{input_limit, raw_lines};
 ghost use Rattle.text_lexer.specs.declared.error.BadLine.{BadLine};
 ghost use Rattle.maps_read.specs.declared.maps.MapsLine.{MapsLine};
 ghost use Rattle.maps_read.specs.declared.reading.TheConstants.{MAPS_LINE_LIMIT};
-ghost use Rattle.maps_read.specs.Laws.{AreRead, IsFirstBad};
+ghost use Rattle.maps_read.specs.Laws.{AreRead, IsFirstBadMapsLine};
 ghost use Rattle.maps_read.specs.Maps.{IsMaps, maps_of};
 ghost use Rattle.maps_read.specs.Query.{query_answer};
 
 /// The line that is named in place of a maps text is the first bad one.
 pub fn first_bad_line()
-    ensures { (bytes : List ℕ) (first : BadLine) → maps_of bytes ≡ Err first → IsFirstBad bytes first }
+    ensures { (bytes : List ℕ) (first : BadLine) → maps_of bytes ≡ Err first → IsFirstBadMapsLine bytes first }
 {}
 
 /// A maps text has one line for each line of its bytes, in their order, and they are in order of their addresses.

@@ -4,7 +4,7 @@ ghost use Rattle.std.specs.Prelude.{◌≡◌, ◌++◌, OnOk, string_bytes};
 ghost use Rattle.flag_table.specs.Printing.{printed};
 ghost use Rattle.flag_table.specs.Tables.{map_flags};
 ghost use Rattle.trace_reader.specs.LineTexts.{bits_of_prot, prot_word};
-ghost use Rattle.maps_read.specs.Mappings.{flags_of, backing_text, mapping_text};
+ghost use Rattle.maps_read.specs.Mappings.{mapping_flags, backing_text, mapping_text};
 ghost use Rattle.maps_read.specs.Internal.Taking.{IsPrinted};
 
 use crate::file_lines::FIRST_DESCRIPTOR;
@@ -26,9 +26,9 @@ fn prot_bits(prot: Prot) -> u32
 }
 
 /// The flags with which an area is mapped.
-#[tactic(auto, unfolding(crate::specs::Mappings::flags_of))]
+#[tactic(auto, unfolding(crate::specs::Mappings::mapping_flags))]
 fn flags_of(area: &Record) -> u32
-    ensures { result ≡ flags_of area.now }
+    ensures { result ≡ mapping_flags area.now }
 {
     let sharing = if area.attr.shared {
         MAP_SHARED
@@ -55,7 +55,7 @@ pub(crate) fn push_mapping(alloc: Global, text: &mut String, area: &Record) -> R
 fn push_words(text: &mut String, area: &Record, prot: &str, flags: &str) -> Result<(), AllocError>
     requires area { IsPrinted area.now }
     requires prot { prot.now ≡ prot_word area.now.attr.prot }
-    requires flags { flags.now ≡ printed map_flags (flags_of area.now) }
+    requires flags { flags.now ≡ printed map_flags (mapping_flags area.now) }
     ensures { OnOk result (string_bytes text.new ≡ string_bytes text.old ++ mapping_text area.now) }
 {
     let lo = PAGE_SIZE * area.span.lo;

@@ -2,9 +2,9 @@
 
 ghost use Rattle.std.specs.Prelude.{◌≡◌, ◌&&◌, length, nat_le, nat_lt, IfOk, IfErr, IsOk, Ok, Err};
 ghost use Rattle.text_lexer.specs.declared.error.BadLine.{BadLine};
-ghost use Rattle.text_lexer.specs.Reading.{GivesTested, IsErrorOf, Reads, line_view};
-ghost use Rattle.maps_read.specs.Fields.{with_name};
-ghost use Rattle.maps_read.specs.Maps.{maps_of, after_line, end_of, next_line};
+ghost use Rattle.text_lexer.specs.Reading.{GivesTested, IsErrorOf, ReadsAs, line_view};
+ghost use Rattle.maps_read.specs.Fields.{with_line_name};
+ghost use Rattle.maps_read.specs.Maps.{maps_of, after_maps_line, lines_end, next_maps_line};
 
 use crate::fields::{LineNumbers, line_of, with_name};
 use crate::maps::{MapsLine, MapsText};
@@ -43,9 +43,9 @@ pub fn read_maps(alloc: Global, bytes: &[u8]) -> Result<MapsText, ReadError>
 }
 
 /// Reads a line behind those so far. All tests of the line come before its name takes memory.
-#[tactic(auto, unfolding(crate::specs::Maps::after_line))]
+#[tactic(auto, unfolding(crate::specs::Maps::after_maps_line))]
 fn push_line(alloc: Global, lines: &mut Vec<MapsLine>, line: &RawLine) -> Result<(), CallError>
-    ensures { GivesTested (λ _. lines.new.items) result (after_line lines.old.items (line_view line.now)) }
+    ensures { GivesTested (λ _. lines.new.items) result (after_maps_line lines.old.items (line_view line.now)) }
 {
     let (numbers, name) = next_line(end_of(lines), line)?;
     let name = Text::of(String::from_str(alloc, name)?);
@@ -54,9 +54,9 @@ fn push_line(alloc: Global, lines: &mut Vec<MapsLine>, line: &RawLine) -> Result
 }
 
 /// What the line that a raw line is says, behind lines that end at this address.
-#[tactic(auto, unfolding(crate::specs::Maps::next_line, text_lexer::specs::Lines::input_limit))]
+#[tactic(auto, unfolding(crate::specs::Maps::next_maps_line, text_lexer::specs::Lines::input_limit))]
 fn next_line<'a>(end: u64, raw: &RawLine<'a>) -> Result<(LineNumbers, &'a str), Cause>
-    ensures { Reads (λ found. with_name found.0 found.1.now) result (next_line end (line_view raw.now)) }
+    ensures { ReadsAs (λ found. with_line_name found.0 found.1.now) result (next_maps_line end (line_view raw.now)) }
 {
     let text = text_within(raw, MAPS_LINE_LIMIT, INPUT_LIMIT)?;
     let (numbers, name) = line_of(text)?;
@@ -69,7 +69,7 @@ fn next_line<'a>(end: u64, raw: &RawLine<'a>) -> Result<(LineNumbers, &'a str), 
 
 /// Where the last of these lines ends, and 0 where there is none.
 fn end_of(lines: &[MapsLine]) -> u64
-    ensures { result ≡ end_of lines.now }
+    ensures { result ≡ lines_end lines.now }
 {
     match lines.last() {
         Some(line) => line.hi,

@@ -5,7 +5,7 @@ ghost use Rattle.maps_read.specs.Maps.{maps_of};
 ghost use Rattle.text_lexer.specs.declared.error.BadLine.{BadLine};
 ghost use Rattle.text_lexer.specs.Reading.{IsErrorOf};
 ghost use Rattle.maps_read.specs.Retracing.{lines_taken, taken_text, retraced_of};
-ghost use Rattle.maps_read.specs.Internal.Taking.{IsTaken, what_taken};
+ghost use Rattle.maps_read.specs.Internal.Taking.{AreLinesTaken, what_taken};
 
 use crate::file_lines::{FIRST_DESCRIPTOR, HEADER, push_file_line};
 use crate::mappings::push_mapping;
@@ -59,7 +59,7 @@ pub fn retrace(alloc: Global, bytes: &[u8], maps: &MapsText) -> Result<Vec<u8>, 
 
 /// The trace of what was taken of the lines; else which of them is not ours.
 fn text_taken(alloc: Global, taken: Result<Taken<'_>, ReadError>) -> Result<Vec<u8>, ReadError>
-    requires { IfOk taken (λ taken. IsTaken (what_taken taken)) }
+    requires { IfOk taken (λ taken. AreLinesTaken (what_taken taken)) }
     ensures text { IfOk result (λ text. IsOkAnd taken.entry (λ taken. text.items ≡ taken_text (what_taken taken))) }
     ensures untaken { IfErr taken.entry (λ error. result ≡ Err error) }
     ensures memory { IsOk taken.entry → IfErr result (λ error. error ≡ ReadError.NoMemory) }
@@ -80,7 +80,7 @@ fn take_lines<'a>(
 ) -> Result<Taken<'a>, ReadError>
     requires { maps_of bytes.now ≡ Ok lines.now }
     ensures taken { IfOk result (λ taken. lines_taken bytes.now lines.now ≡ Ok (what_taken taken)) }
-    ensures right { IfOk result (λ taken. IsTaken (what_taken taken)) }
+    ensures right { IfOk result (λ taken. AreLinesTaken (what_taken taken)) }
     ensures bad { IfErr result (λ error. IsErrorOf error (lines_taken bytes.now lines.now)) }
     ensures empty { length lines.now ≡ 0 → IsOk result }
 {
@@ -101,7 +101,7 @@ fn take_lines<'a>(
 /// The trace of what was taken.
 #[tactic(auto, unfolding(crate::specs::Retracing::taken_text))]
 fn taken_text(alloc: Global, taken: &Taken) -> Result<String, NoMemory>
-    requires { IsTaken (what_taken taken.now) }
+    requires { AreLinesTaken (what_taken taken.now) }
     ensures { IfOk result (λ text. string_bytes text ≡ taken_text (what_taken taken.now)) }
 {
     let mut text = String::new(alloc);

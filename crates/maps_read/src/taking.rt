@@ -3,9 +3,9 @@
 ghost use Rattle.std.specs.Prelude.{◌≡◌, ◌≤◌, ◌<◌, true, length, Err, IsOk, IsSome};
 ghost use Rattle.text_lexer.specs.Reading.{Gives};
 ghost use Rattle.mm_types.specs.declared.config.TheConstants.{MOST_FILES};
-ghost use Rattle.maps_read.specs.FileLines.{file_place};
-ghost use Rattle.maps_read.specs.Retracing.{nothing_taken, may_map, areas_with, with_next_file, with_file, with_line};
-ghost use Rattle.maps_read.specs.Internal.Taking.{IsTaken, may_take, what_taken};
+ghost use Rattle.maps_read.specs.FileLines.{first_line_of_file};
+ghost use Rattle.maps_read.specs.Retracing.{nothing_taken, may_map, areas_with, with_next_file, with_file_taken, with_line_taken};
+ghost use Rattle.maps_read.specs.Internal.Taking.{AreLinesTaken, may_take, what_taken};
 
 use crate::MapsLine;
 use crate::areas::{area_of, is_text_of, may_map};
@@ -39,15 +39,15 @@ impl<'a> Taken<'a> {
 
     /// Takes a line, which has this text, or says that it is not ours. Memory may run out only where the line may be mapped, or its file
     /// is one more.
-    #[tactic(auto, unfolding(crate::specs::Retracing::with_line))]
+    #[tactic(auto, unfolding(crate::specs::Retracing::with_line_taken))]
     pub(crate) fn add(
         &mut self,
         alloc: Global,
         line: &'a MapsLine,
         text: &[u8],
     ) -> Result<(), CallError>
-        requires { IsTaken (what_taken self.old) }
-        ensures line { Gives (λ _. what_taken self.new) result (with_line (what_taken self.old) line.now text.now) }
+        requires { AreLinesTaken (what_taken self.old) }
+        ensures line { Gives (λ _. what_taken self.new) result (with_line_taken (what_taken self.old) line.now text.now) }
         ensures memory { result ≡ Err CallError.NoMemory → may_take (what_taken self.old) line.now ≡ true }
     {
         if line.name.as_str().is_empty() {
@@ -68,12 +68,12 @@ impl<'a> Taken<'a> {
 
     /// The place of the file of a line, which is taken where the line shows it first. Memory does not run out for a file of a line so
     /// far, nor where there is no room for one more.
-    #[tactic(auto, unfolding(crate::specs::Retracing::with_file))]
+    #[tactic(auto, unfolding(crate::specs::Retracing::with_file_taken))]
     fn place_of(&mut self, alloc: Global, line: &'a MapsLine) -> Result<usize, CallError>
-        requires { IsTaken (what_taken self.old) }
-        ensures place { Gives (λ place. (what_taken self.new, place)) result (with_file (what_taken self.old) line.now) }
+        requires { AreLinesTaken (what_taken self.old) }
+        ensures place { Gives (λ place. (what_taken self.new, place)) result (with_file_taken (what_taken self.old) line.now) }
         ensures memory { result ≡ Err CallError.NoMemory → length self.old.named.items < MOST_FILES }
-        ensures known { IsSome (file_place (what_taken self.old).named line.now) → IsOk result }
+        ensures known { IsSome (first_line_of_file (what_taken self.old).named line.now) → IsOk result }
     {
         match file_place(&self.named, line) {
             Some(place) => Ok(place),
@@ -90,7 +90,7 @@ impl<'a> Taken<'a> {
     /// Takes the file of a line that shows it first. Where there is no room for one more, memory does not run out.
     #[tactic(auto, unfolding(crate::specs::Retracing::with_next_file))]
     fn add_file(&mut self, alloc: Global, line: &'a MapsLine) -> Result<(), CallError>
-        requires { IsTaken (what_taken self.old) }
+        requires { AreLinesTaken (what_taken self.old) }
         ensures file { Gives (λ _. what_taken self.new) result (with_next_file (what_taken self.old) line.now) }
         ensures memory { result ≡ Err CallError.NoMemory → length self.old.named.items < MOST_FILES }
     {

@@ -12,7 +12,7 @@ use Rattle.area_rules.specs.Tables.{AddressSpace}
 use Rattle.area_rules.specs.Steps.{after}
 use Rattle.history.specs.declared.items.Content.{Content}
 use Rattle.history.specs.declared.items.Item.{Item}
-use Rattle.history.specs.Histories.{caller_of, lines_of, line_of, items_of, journal_of, is_call, read_as, op_of, answer_of, IsLegalHistory, CanStand}
+use Rattle.history.specs.Histories.{caller_of, lines_of, line_answered, items_of, journal_of, is_call, read_as, op_asked, answer_of, IsLegalHistory, CanStand}
 use Rattle.history.proofs.Calls.{is_answer, reads_answer}
 use Rattle.history.proofs.Lists.{slice_get_found}
 use Rattle.history.proofs.Numbers.{passed, own_place}
@@ -57,13 +57,13 @@ asked_line (Some line) P some = (line, refl, some)
 answered : (config : Config) (before : List Entry) (lines : List TraceLine) (child : ℕ) (items : List Item) (place : ℕ) (item : Item)
     → IsLegalHistory config before (child_lines lines child) items → slice_get items place ≡ Some item
     → Answered config before (child_lines lines child) (take place items) item (caller_of (child_lines lines child) child)
-unfolding line_of
+unfolding line_answered
 answered config before lines child items place item legal found =
     let own : List TraceLine = child_lines lines child in
     let caller : ℕ = caller_of own child in
     let prior : List Item = take place items in
     let stands : CanStand config before own prior item = legal.stands place item found in
-    let asked = asked_line (slice_get (lines_of own item.caller) (length (items_of prior item.caller))) (λ line. read_as line.op ≡ op_of item.content) stands.next in
+    let asked = asked_line (slice_get (lines_of own item.caller) (length (items_of prior item.caller))) (λ line. read_as line.op ≡ op_asked item.content) stands.next in
     let by : item.caller ≡ caller = child_caller lines child item.caller (length (items_of prior item.caller)) asked.0 asked.1 in
     let journal : List Entry = before ++ journal_of prior in
     let space : AddressSpace = space_from config (after config before) (journal_of prior) in

@@ -14,13 +14,29 @@ use Rattle.area_rules.specs.Steps.{step, after, IsLegalJournal}
 use Rattle.area_rules.specs.Journals.{calls_by, version_of, IsReadAfter, IsReadRight}
 use Rattle.history.specs.declared.items.Item.{Item}
 use Rattle.history.specs.Histories.{lines_of, is_call, journal_of, IsLegalHistory}
-use Rattle.history.specs.Runs.{own_of, ops_of, asked, history_of, IsLegalAfter, IsReadRightAfter, AreTold, ComesAfter, IsRun}
+use Rattle.history.specs.Runs.{own_of, ops_of, asked, history_of, HasGrown, IsLegalAfter, IsReadRightAfter, AreTold, IsRun}
 use Rattle.history.proofs.Touches.{touches_made}
 use Rattle.history.proofs.Finished.{history_is_legal, run_journal}
 use Rattle.mm_fork.specs.Behind.{shifted, unshifted, log_behind}
 use Rattle.mm_fork.specs.Children.{child_history_of, IsChildRun}
 use Rattle.mm_fork.proofs.Places.{taken_on, taken_past, got_on, mapped_from, mapped_to}
 use Rattle.mm_fork.proofs.Shifting.{own_behind, ops_behind}
+
+-- A finished run of the lines of a child, counted over all entries, of which none that it inherited is of a caller of the child: the whole
+-- journal is legal, each touch behind the inherited entries grew, each caller's reads are right in the whole journal and not from before the
+-- fork, what each caller did is its lines, in order, what a line names was done before, and nobody else did anything or has a line.
+pub record IsWholeRun (config : Config) (before : List Entry) (lines : List TraceLine) (callers : ℕ) (own : List Entry) (logs : List (List Seen)) : Type 0 where
+  pub legal : IsLegalJournal config (before ++ own)
+  pub grown : All HasGrown own
+  pub all : length logs ≡ callers
+  pub right : (caller : ℕ) (log : List Seen) → slice_get logs caller ≡ Some log → All (IsReadRight config (before ++ own)) log
+  pub later : (caller : ℕ) (log : List Seen) → slice_get logs caller ≡ Some log → All (λ read. length before ≤ version_of read) log
+  pub done : (caller : ℕ) (log : List Seen) → slice_get logs caller ≡ Some log
+      → ops_of (own_of caller (before ++ own) log) ≡ asked (lines_of lines caller)
+  pub told : AreTold lines (before ++ own) logs
+  pub apart : (caller : ℕ) → caller < callers → calls_by caller before ≡ []
+  pub others : (caller : ℕ) → callers ≤ caller → calls_by caller own ≡ []
+  pub no_lines : (caller : ℕ) → callers ≤ caller → lines_of lines caller ≡ []
 
 -- what is legal as a whole is legal behind its beginning
 legal_behind : (config : Config) (before own : List Entry) → IsLegalJournal config (before ++ own) → IsLegalAfter config before own
@@ -60,7 +76,7 @@ reads_behind config before own (read ∷ log) right late =
 
 -- a caller of the child has no part in what it inherited
 own_apart : (config : Config) (before : List Entry) (lines : List TraceLine) (callers : ℕ) (own : List Entry) (logs : List (List Seen))
-    → IsChildRun config before lines callers own logs → (caller : ℕ) (log : List Seen) → slice_get logs caller ≡ Some log
+    → IsWholeRun config before lines callers own logs → (caller : ℕ) (log : List Seen) → slice_get logs caller ≡ Some log
     → calls_by caller before ≡ []
 own_apart config before lines callers own logs run caller log found =
     run.apart caller (subst (λ (n : ℕ). caller < n) run.all (slice_get_within logs caller log found))
@@ -70,7 +86,7 @@ earlier s n t i before = omega arith
 
 -- and comes as late after what it was told
 told_behind : (config : Config) (before : List Entry) (lines : List TraceLine) (callers : ℕ) (own : List Entry) (logs : List (List Seen))
-    → IsChildRun config before lines callers own logs → AreTold lines own (map (log_behind (length before)) logs)
+    → IsWholeRun config before lines callers own logs → AreTold lines own (map (log_behind (length before)) logs)
 told_behind config before lines callers own logs run caller place log item line number logged stood asked names teller there other said named
     told_log told_stood told_asked is =
     let n : ℕ = length before in
@@ -90,9 +106,9 @@ told_behind config before lines callers own logs run caller place log item line 
         ∙ mapped_to (shifted (length before)) (own_of caller own (log_behind (length before) log)) place item
         (ap (λ (l : List Seen). slice_get (own_of caller own l) place) is ∙ stood)
 
--- a finished run of a child is, without what it inherited, a run behind that
-pub run_behind : (config : Config) (before : List Entry) (lines : List TraceLine) (callers : ℕ) (own : List Entry) (logs : List (List Seen))
-    → IsChildRun config before lines callers own logs → IsRun config before lines callers own (map (log_behind (length before)) logs)
+-- such a run is, without what it inherited, a run behind that
+run_behind : (config : Config) (before : List Entry) (lines : List TraceLine) (callers : ℕ) (own : List Entry) (logs : List (List Seen))
+    → IsWholeRun config before lines callers own logs → IsRun config before lines callers own (map (log_behind (length before)) logs)
 run_behind config before lines callers own logs run =
     let n : ℕ = length before in
     let legal : IsLegalAfter config before own = legal_behind config before own run.legal in
@@ -115,6 +131,11 @@ run_behind config before lines callers own logs run =
       no_lines = run.no_lines;
     }
 
+pub whole_run : (config : Config) (before : List Entry) (lines : List TraceLine) (callers : ℕ) (own : List Entry) (logs : List (List Seen))
+    → IsWholeRun config before lines callers own logs → IsChildRun config before lines callers own logs
+whole_run config before lines callers own logs run =
+    record { later = run.later; run = run_behind config before lines callers own logs run }
+
 history_behind : (before own : List Entry) (logs : List (List Seen)) → child_history_of (length before) (before ++ own) logs
     ≡ history_of own (map (log_behind (length before)) logs)
 history_behind before own logs = ap (λ (j : List Entry). history_of j (map (log_behind (length before)) logs)) (drop-append_seam before own)
@@ -125,11 +146,11 @@ pub child_is_legal : (config : Config) (before : List Entry) (lines : List Trace
 child_is_legal config before lines callers own logs run few numbered names =
     subst (λ (items : List Item). IsLegalHistory config before lines items) (sym (history_behind before own logs))
     (history_is_legal config before lines callers own (map (log_behind (length before)) logs)
-    (run_behind config before lines callers own logs run) few numbered names)
+    run.run few numbered names)
 
 pub child_journal : (config : Config) (before : List Entry) (lines : List TraceLine) (callers : ℕ) (own : List Entry) (logs : List (List Seen))
     → IsChildRun config before lines callers own logs → callers ≤ 2 ^ 32
     → journal_of (child_history_of (length before) (before ++ own) logs) ≡ own
 child_journal config before lines callers own logs run few =
     ap journal_of (history_behind before own logs)
-    ∙ run_journal config before lines callers own (map (log_behind (length before)) logs) (run_behind config before lines callers own logs run) few
+    ∙ run_journal config before lines callers own (map (log_behind (length before)) logs) run.run few

@@ -12,7 +12,7 @@ use Rattle.area_rules.specs.Journals.{calls_by, version_of}
 use Rattle.history.specs.declared.items.Content.{Content}
 use Rattle.history.specs.declared.items.Content.TheVariants as contents
 use Rattle.history.specs.declared.items.Item.{Item}
-use Rattle.history.specs.Histories.{items_of, op_of, is_call, gather, goes_first}
+use Rattle.history.specs.Histories.{items_of, op_asked, is_call, gather, goes_first}
 use Rattle.history.specs.Runs.{entry_items, read_item, log_items, own_of, ops_of}
 use Rattle.history.proofs.SerialOrder.{insert_item}
 use Rattle.history.proofs.Steps.{entry_item, entries_append, items_append, entries_none}
@@ -101,7 +101,7 @@ own_behind caller before own log none late =
 ops_shifted : (n : ℕ) (xs : List Item) → ops_of (map (shifted n) xs) ≡ ops_of xs
 unfolding ops_of
 ops_shifted n [] = refl
-ops_shifted n (x ∷ xs) = ap (λ (l : List Op). op_of x.content ∷ l) (ops_shifted n xs)
+ops_shifted n (x ∷ xs) = ap (λ (l : List Op). op_asked x.content ∷ l) (ops_shifted n xs)
 
 pub ops_behind : (caller : ℕ) (before own : List Entry) (log : List Seen) → calls_by caller before ≡ [] → All (λ read. length before ≤ version_of read) log
     → ops_of (own_of caller (before ++ own) log) ≡ ops_of (own_of caller own (log_behind (length before) log))

@@ -1,5 +1,5 @@
 -- Child spaces: what a child begins with, whose lines are whose, and the history of a child.
-use Rattle.std.specs.Prelude.{ℕ, ◌≡◌, ◌≤◌, ◌<◌, ◌+◌, false, List, [], ◌++◌, length, map, take, drop, fold, slice_get, All, Some}
+use Rattle.std.specs.Prelude.{ℕ, ◌≡◌, ◌≤◌, ◌+◌, false, List, length, map, take, drop, fold, slice_get, All, Some}
 use Rattle.mm_types.specs.declared.call.Entry.{Entry}
 use Rattle.mm_types.specs.declared.call.Seen.{Seen}
 use Rattle.mm_types.specs.declared.config.Config.{Config}
@@ -8,15 +8,14 @@ use Rattle.trace_reader.specs.declared.trace.TraceLine.{TraceLine}
 use Rattle.area_rules.specs.Growing.{grows}
 use Rattle.area_rules.specs.Tables.{AddressSpace}
 use Rattle.area_rules.specs.Verdicts.{verdict}
-use Rattle.area_rules.specs.Steps.{step, IsLegalJournal}
-use Rattle.area_rules.specs.Journals.{calls_by, version_of, IsReadRight}
+use Rattle.area_rules.specs.Steps.{step}
+use Rattle.area_rules.specs.Journals.{version_of}
 use Rattle.history.specs.declared.callers.TheConstants.{MOST_THREADS}
 use Rattle.history.specs.declared.items.Content.{Content}
 use Rattle.history.specs.declared.items.Content.TheVariants as contents
 use Rattle.history.specs.declared.items.Item.{Item}
-use Rattle.history.specs.Histories.{lines_of}
 use Rattle.history.specs.SpaceLines.{child_lines}
-use Rattle.history.specs.Runs.{history_of, own_of, ops_of, asked, HasGrown, AreTold}
+use Rattle.history.specs.Runs.{history_of, IsRun}
 use Rattle.mm_fork.specs.Behind.{log_behind}
 
 -- an entry of a parent as its child has it, whose caller is none of the child's
@@ -46,19 +45,8 @@ IsRightOver config space (contents.Fault page access found) = (grows config spac
     × (found ≡ verdict config space.areas page.0 access)
 IsRightOver config space (contents.List areas) = areas ≡ space.areas
 
--- A finished run of the lines of a child by so many callers, whose journal begins with the entries that it inherited, none of which is of a
--- caller of the child: the whole journal is legal, each touch behind these entries grew, each caller's reads are right in the whole journal
--- and not from before the fork, what each caller did is its lines, in order, what a line names was done before, and nobody else did
--- anything or has a line.
+-- A finished run of the lines of a child by so many callers, in a space that began with the entries that it inherited: no read is from before
+-- the fork, and with versions counted from the fork it is a run behind these entries.
 pub record IsChildRun (config : Config) (before : List Entry) (lines : List TraceLine) (callers : ℕ) (own : List Entry) (logs : List (List Seen)) : Type 0 where
-  pub legal : IsLegalJournal config (before ++ own)
-  pub grown : All HasGrown own
-  pub all : length logs ≡ callers
-  pub right : (caller : ℕ) (log : List Seen) → slice_get logs caller ≡ Some log → All (IsReadRight config (before ++ own)) log
   pub later : (caller : ℕ) (log : List Seen) → slice_get logs caller ≡ Some log → All (λ read. length before ≤ version_of read) log
-  pub done : (caller : ℕ) (log : List Seen) → slice_get logs caller ≡ Some log
-      → ops_of (own_of caller (before ++ own) log) ≡ asked (lines_of lines caller)
-  pub told : AreTold lines (before ++ own) logs
-  pub apart : (caller : ℕ) → caller < callers → calls_by caller before ≡ []
-  pub others : (caller : ℕ) → callers ≤ caller → calls_by caller own ≡ []
-  pub no_lines : (caller : ℕ) → callers ≤ caller → lines_of lines caller ≡ []
+  pub run : IsRun config before lines callers own (map (log_behind (length before)) logs)

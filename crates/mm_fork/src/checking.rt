@@ -2,7 +2,7 @@
 ghost use Rattle.std.specs.Prelude.{◌≡◌, ◌≤◌, ◌^◌, Err, [], Contains, OnOk, length};
 ghost use Rattle.trace_reader.specs.Values.{IsTraceValue, children_of};
 ghost use Rattle.history.specs.declared.answers.BadEntry.{BadEntry};
-ghost use Rattle.history.specs.Checking.{IsRefused};
+ghost use Rattle.history.specs.Checking.{IsHistoryRefused};
 ghost use Rattle.history.specs.Histories.{IsLegalHistory};
 ghost use Rattle.history.specs.SpaceLines.{child_lines};
 
@@ -25,7 +25,7 @@ pub fn check_child(
     requires begun { length before.now ≤ 2 ^ 31 }
     ensures legal { OnOk result (IsLegalHistory trace.now.config before.now (child_lines trace.now.lines child) history.now) }
     ensures refused { (bad : BadEntry) → result ≡ Err (CheckError.Bad bad)
-        → IsRefused trace.now.config before.now (child_lines trace.now.lines child) history.now bad }
+        → IsHistoryRefused trace.now.config before.now (child_lines trace.now.lines child) history.now bad }
 {
     let lines = SpaceLines::child_of(alloc, trace, child)?;
     check_after(alloc, &trace.config, before, &lines, history)

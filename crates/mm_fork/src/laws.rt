@@ -1,6 +1,6 @@
 //! Laws of child spaces. Each is the contract of a function that does nothing.
 
-ghost use Rattle.std.specs.Prelude.{◌≡◌, ◌<◌, ◌≤◌, ◌^◌, ℕ, List, ◌++◌, length, map, take, slice_get, All, Contains, None, Some};
+ghost use Rattle.std.specs.Prelude.{◌≡◌, ◌<◌, ◌≤◌, ◌^◌, ℕ, List, ◌++◌, length, take, slice_get, All, Contains, None, Some};
 ghost use Rattle.mm_types.specs.declared.call.Entry.{Entry};
 ghost use Rattle.mm_types.specs.declared.call.Seen.{Seen};
 ghost use Rattle.mm_types.specs.declared.config.Config.{Config};
@@ -10,8 +10,6 @@ ghost use Rattle.trace_reader.specs.Values.{AreNumbered, AreNamesRight, IsTraceV
 ghost use Rattle.area_rules.specs.Steps.{after};
 ghost use Rattle.history.specs.declared.items.Item.{Item};
 ghost use Rattle.history.specs.Histories.{journal_of, IsLegalHistory};
-ghost use Rattle.history.specs.Runs.{IsRun};
-ghost use Rattle.mm_fork.specs.Behind.{log_behind};
 ghost use Rattle.mm_fork.specs.Children.{inherited, child_history_of, child_trace, space_from, IsRightOver, IsChildRun};
 ghost use Rattle.history.specs.Parents.{parent_trace};
 ghost use Rattle.history.specs.SpaceLines.{child_lines};
@@ -22,12 +20,8 @@ pub fn inherited_entries_keep_the_space()
         → after config (inherited journal version) ≡ after config (take version journal) }
 {}
 
-/// The journal and the logs of a finished run of a child, without what it inherited, are a run of the child's lines behind these entries;
-/// gathered, they are its history, which is legal behind these entries.
+/// The journal and the logs of a finished run of a child, gathered, are its history, which is legal behind what it inherited.
 pub fn child_run_makes_a_legal_history()
-    ensures run { (config : Config) (before : List Entry) (lines : List TraceLine) (callers : ℕ) (own : List Entry) (logs : List (List Seen))
-        → IsChildRun config before lines callers own logs
-        → IsRun config before lines callers own (map (log_behind (length before)) logs) }
     ensures legal { (config : Config) (before : List Entry) (lines : List TraceLine) (callers : ℕ) (own : List Entry) (logs : List (List Seen))
         → IsChildRun config before lines callers own logs → callers ≤ 2 ^ 32 → AreNumbered lines → AreNamesRight lines
         → IsLegalHistory config before lines (child_history_of (length before) (before ++ own) logs) }

@@ -10,15 +10,15 @@ use Rattle.area_rules.specs.Steps.{step, after, IsLegalJournal}
 use Rattle.fault_path.specs.Passes.{PassView, ViewedTable, IsLater, AreFresh, AreUnused, caller, seen_by, looks_of, walks_of}
 use Rattle.fault_path.specs.Passes as tables
 use Rattle.mm_state.specs.States.{StateView}
-use Rattle.mm_space.specs.Names.{SpaceId, viewed_of, Within, AreStrangers, IsPassOf, IsNamed}
+use Rattle.mm_space.specs.Names.{SpaceId, viewed_of, MadeWithin, AreStrangers, IsPassOf, IsNamed}
 use Rattle.mm_space.specs.Opening.{operations_of, viewed_space, met_space, CanBeOpened, AreOpened}
 use Rattle.mm_space.proofs.Settling.{still}
 
-pub operations_are : (viewed : ViewedTable) (most : List ℕ) (passes : List PassView) → tables.ArePasses viewed most passes → operations_of passes ≡ most
+pub operations_are : (viewed : ViewedTable) (most : List ℕ) (passes : List PassView) → tables.AreTablePasses viewed most passes → operations_of passes ≡ most
 operations_are viewed most passes are = ext_get_or 0 (operations_of passes) most
     (length-map passes (λ (p : PassView). p.operations) ∙ are.all) (λ place within. at passes are place within)
   where
-    at : (passes : List PassView) → tables.ArePasses viewed most passes → (place : ℕ) → place < length (operations_of passes)
+    at : (passes : List PassView) → tables.AreTablePasses viewed most passes → (place : ℕ) → place < length (operations_of passes)
         → get_or (operations_of passes) place 0 ≡ get_or most place 0
     at [] are place within = absurd (omega (arith, within))
     at (first ∷ rest) are place within =
@@ -79,7 +79,7 @@ ready name passes viewed state logs reserved viewed_is table nodes config journa
 pub opened_at_once : (name : SpaceId) (viewed : ViewedTable) (passes : List PassView) → viewed ≡ viewed_of name → name.before ≡ []
     → AreFresh viewed name.operations passes → AreUnused passes → AreOpened name passes
 opened_at_once name viewed passes viewed_is before fresh unused = record {
-  passes_are = subst (λ (v : ViewedTable). tables.ArePasses v name.operations passes) viewed_is fresh.passes_are;
+  passes_are = subst (λ (v : ViewedTable). tables.AreTablePasses v name.operations passes) viewed_is fresh.passes_are;
   opened = λ place pass found.
       let f = fresh.fresh place pass found in
       let never = unused place pass found in
@@ -181,7 +181,7 @@ named_at_once name viewed state passes logs reserved is same = subst (λ (n : Sp
   begins = take_all (length state.journal) state.journal (omega arith);
   strangers = is.strangers;
   callers = omega (arith, is.most, length-map passes (λ (p : PassView). p.operations));
-  within = subst (Within (operations_of passes)) (sym (nothing_since state.journal)) (λ caller. omega arith);
+  within = subst (MadeWithin (operations_of passes)) (sym (nothing_since state.journal)) (λ caller. omega arith);
   few = is.few;
   room = is.room;
 }

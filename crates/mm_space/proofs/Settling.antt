@@ -9,14 +9,14 @@ use Rattle.mm_types.specs.declared.call.Seen.{Seen}
 use Rattle.area_rules.specs.Journals.{calls_by}
 use Rattle.area_rules.specs.Steps.{IsLegalJournal}
 use Rattle.lock_core.specs.Facts.{list_after}
-use Rattle.fault_path.specs.Passes.{PassView, ViewedTable, SitsAt, IsLater, node_size}
+use Rattle.fault_path.specs.Passes.{PassView, ViewedTable, SitsAtTables, IsLater, node_size}
 use Rattle.mm_space.specs.Closing.{IsIn, Closes}
 use Rattle.lock_core.specs.Core.{StartsWith}
-use Rattle.mm_space.specs.Names.{SpaceId, viewed_of, IsViewOf, IsPassOf, ArePasses, Within, since}
+use Rattle.mm_space.specs.Names.{SpaceId, viewed_of, IsViewOf, IsPassOf, ArePasses, MadeWithin, since}
 
 -- a pass of a space, later, sits at the space's tables
 pub sits_later : (name : SpaceId) (viewed : ViewedTable) (old new : PassView) → IsViewOf name viewed → IsPassOf name old → IsLater old new
-    → SitsAt viewed new
+    → SitsAtTables viewed new
 sits_later name viewed old new view of later = record {
   table = later.table ∙ of.sits.table ∙ sym view.0;
   nodes = later.nodes ∙ of.sits.nodes ∙ sym view.1;
@@ -25,7 +25,7 @@ sits_later name viewed old new view of later = record {
 }
 
 -- and stays there
-pub sits_on : (viewed : ViewedTable) (old new : PassView) → SitsAt viewed old → IsLater old new → SitsAt viewed new
+pub sits_on : (viewed : ViewedTable) (old new : PassView) → SitsAtTables viewed old → IsLater old new → SitsAtTables viewed new
 sits_on viewed old new sits later = record {
   table = later.table ∙ sits.table;
   nodes = later.nodes ∙ sits.nodes;
@@ -65,7 +65,7 @@ regathered later logs last passes pass next gives is same =
 -- what closing all passes results in
 pub closes : (name : SpaceId) (passes : List PassView) (journal kept : List Entry) (logs : List (List Seen)) (list : List Record)
     → ArePasses name passes → journal ≡ kept → IsLegalJournal name.config kept → list ≡ list_after name.config kept
-    → logs ≡ map (λ p. p.log) passes → All (IsIn name.config kept) passes → StartsWith kept name.before → Within name.operations (since name.before kept)
+    → logs ≡ map (λ p. p.log) passes → All (IsIn name.config kept) passes → StartsWith kept name.before → MadeWithin name.operations (since name.before kept)
     → Closes name passes (record { journal = journal; logs = logs; list = list })
 closes name passes journal kept logs list are journal_is legal list_is logs_are lie begins within = subst
     (λ (entries : List Entry). Closes name passes (record { journal = entries; logs = logs; list = list }))

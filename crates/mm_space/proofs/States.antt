@@ -8,7 +8,7 @@ use Rattle.mm_types.specs.declared.call.Entry.{Entry}
 use Rattle.area_rules.specs.Journals.{calls_by}
 use Rattle.lock_core.specs.Core.{StartsWith}
 use Rattle.mm_state.specs.States.{StateView}
-use Rattle.mm_space.specs.Names.{SpaceId, Within, since, AreStrangers, IsNamed}
+use Rattle.mm_space.specs.Names.{SpaceId, MadeWithin, since, AreStrangers, IsNamed}
 
 own_counted : (caller : ℕ) (entry : Entry) (journal : List Entry) → entry.caller ≡ caller
     → length (calls_by caller (entry ∷ journal)) ≡ length (calls_by caller journal) + 1
@@ -34,8 +34,8 @@ taken_sum operations caller some =
     sum_by-set (λ x. x) operations caller (get_or operations caller 0 - 1) 0 (get_within operations caller some) in
     omega (arith, moved, some)
 
-rest_within : (operations : List ℕ) (entry : Entry) (journal : List Entry) → Within operations (entry ∷ journal)
-    → 0 < get_or operations entry.caller 0 → Within (taken operations entry.caller) journal
+rest_within : (operations : List ℕ) (entry : Entry) (journal : List Entry) → MadeWithin operations (entry ∷ journal)
+    → 0 < get_or operations entry.caller 0 → MadeWithin (taken operations entry.caller) journal
 rest_within operations entry journal within some caller = elim (cases_eq entry.caller caller) [
   | inl own ↦
       let here = get_or-set_same operations entry.caller (get_or operations entry.caller 0 - 1) 0 (get_within operations entry.caller some) in
@@ -50,7 +50,7 @@ rest_within operations entry journal within some caller = elim (cases_eq entry.c
 ]
 
 -- the entries of all callers
-pub all_within : (operations : List ℕ) (journal : List Entry) → Within operations journal → length journal ≤ sum operations
+pub all_within : (operations : List ℕ) (journal : List Entry) → MadeWithin operations journal → length journal ≤ sum operations
 all_within operations [] within = omega arith
 all_within operations (entry ∷ journal) within =
     let count = own_counted entry.caller entry journal refl in
@@ -90,14 +90,14 @@ own_since journal before caller starts strangers within =
     ∙ ap (λ (l : List Entry). l ++ calls_by caller (since before journal)) (no_calls before caller strangers within)
 
 -- how many entries there are
-pub counted_since : (journal before : List Entry) (operations : List ℕ) → StartsWith journal before → Within operations (since before journal)
+pub counted_since : (journal before : List Entry) (operations : List ℕ) → StartsWith journal before → MadeWithin operations (since before journal)
     → length journal ≤ length before + sum operations
 counted_since journal before operations starts within =
     let whole = ap length (parts journal before starts) ∙ length-append before (since before journal) in
     omega (arith, whole, all_within operations (since before journal) within)
 
-within_more : (operations : List ℕ) (entries : List Entry) (entry : Entry) → Within operations entries
-    → length (calls_by entry.caller entries) < get_or operations entry.caller 0 → Within operations (entries ++ entry ∷ [])
+within_more : (operations : List ℕ) (entries : List Entry) (entry : Entry) → MadeWithin operations entries
+    → length (calls_by entry.caller entries) < get_or operations entry.caller 0 → MadeWithin operations (entries ++ entry ∷ [])
 within_more operations entries entry within some caller =
     let whole = ap length (filter-append (λ (e : Entry). nat_eq e.caller caller) entries (entry ∷ []))
     ∙ length-append (calls_by caller entries) (calls_by caller (entry ∷ [])) in
@@ -130,7 +130,7 @@ named_more name old new entry is more table nodes config room some =
       begins = ap (take (length before)) more ∙ take-append-le (length before) old.journal (entry ∷ []) few ∙ is.begins;
       strangers = is.strangers;
       callers = is.callers;
-      within = subst (Within operations) (sym (ap (drop (length before)) more ∙ drop_append (length before) old.journal (entry ∷ []) few))
+      within = subst (MadeWithin operations) (sym (ap (drop (length before)) more ∙ drop_append (length before) old.journal (entry ∷ []) few))
           (within_more operations (since before old.journal) entry is.within (omega (arith, own, some)));
       few = is.few;
       room = room ∙ is.room;

@@ -31,9 +31,9 @@ use Rattle.vma_lock.specs.declared.seats.ReaderSeat.{ReaderSeat}
 use Rattle.vma_lock.specs.Seats.{seen, stage, HasTurn}
 use Rattle.vma_lock.specs.Seats as areas
 use Rattle.vma_lock.specs.Views.{look_at}
-use Rattle.node_slots.specs.Seats.{view}
+use Rattle.node_slots.specs.Seats.{node_view}
 use Rattle.fault_path.specs.declared.fast.Miss.{Miss}
-use Rattle.fault_path.specs.Passes.{PassView, IsPass, IsLater, caller, config, seen_by, made_by}
+use Rattle.fault_path.specs.Passes.{PassView, IsPass, IsLater, caller, pass_config, seen_by, made_by}
 use Rattle.fault_path.proofs.Passes.{gone_on}
 use Rattle.fault_path.specs.Faults.{IsAnswer, Misses}
 use Rattle.mm_space.specs.Names.{SpaceId}
@@ -42,7 +42,7 @@ use Rattle.mm_space.specs.declared.space.Found.{Found}
 use Rattle.mm_space.specs.declared.space.Found.TheVariants.{Answered, Entered}
 use Rattle.mm_space.specs.declared.space.Path.{Path}
 use Rattle.mm_space.specs.declared.space.Path.TheVariants.{Fast, Slow}
-use Rattle.mm_space.specs.Spaces.{Answers, Calls, Finds, Hears, Grows, IsDone, IsWay, LooksOnce, Meets, entry_by}
+use Rattle.mm_space.specs.Spaces.{Answers, Calls, FindsPage, Hears, Grows, IsFaultDone, IsWay, LooksOnce, MeetsState, entry_by}
 
 -- a pass with another log, and another number of operations left
 abbrev pub relogged : PassView → List Seen → ℕ → PassView
@@ -90,7 +90,7 @@ missed_first page access old between new miss answer version path missed later l
   missed = missed;
   later = later;
   look = look;
-  walker = ap view same;
+  walker = ap node_view same;
 })
 
 -- a verdict without the lock
@@ -129,7 +129,7 @@ called_after old between new made answer place same own later is =
 -- what was found under the lock was found by the fault that missed before
 pub found_after : (page : Page) (access : Access) (old between new : PassView) (found : Found)
     → between ≡ record old { reader = between.reader; nodes = between.nodes } → made_by between ≡ made_by old → IsLater old between
-    → Finds page access between new found → Finds page access old new found
+    → FindsPage page access between new found → FindsPage page access old new found
 found_after page access old between new (Answered done) same own later is = record {
   same = is.same ∙ ap (λ (p : PassView). record p { reader = new.reader; nodes = new.nodes; takes = new.takes }) same;
   own = is.own ∙ own;
@@ -168,11 +168,11 @@ entered old new journal made answer place seen later own by version log left = r
 
 -- the answer is right at the end of what the pass has seen
 pub answered_right : (page : Page) (access : Access) (old new : PassView) (done : Faulted) → Answers page access old new done
-    → IsReadRight (config new) (seen_by new) (Fault done.version page access done.verdict)
+    → IsReadRight (pass_config new) (seen_by new) (Fault done.version page access done.verdict)
 answered_right page access old new done is =
     let all : take done.version (seen_by new) ≡ seen_by new = take_all done.version (seen_by new) (omega (arith, is.version)) in
     record {
-      right = subst (λ (j : List Entry). IsReadAfter (config new) j (Fault done.version page access done.verdict)) (sym all) (is.still, is.verdict);
+      right = subst (λ (j : List Entry). IsReadAfter (pass_config new) j (Fault done.version page access done.verdict)) (sym all) (is.still, is.verdict);
       within = omega (arith, is.version);
     }
 
@@ -180,7 +180,7 @@ answered_right page access old new done is =
 pub answered_done : (page : Page) (access : Access) (old between new : PassView) (done : Faulted) → Answers page access old between done
     → 0 < old.left
     → new ≡ relogged between (between.log ++ Fault done.version page access done.verdict ∷ []) (between.left - 1)
-    → IsDone page access old new done
+    → IsFaultDone page access old new done
 answered_done page access old between new done is some noted =
     let read : Seen = Fault done.version page access done.verdict in
     let left = ap (λ (p : PassView). p.left) is.same in
@@ -188,7 +188,7 @@ answered_done page access old between new done is some noted =
     inl (record {
       log = ap (λ (p : PassView). p.log) noted ∙ ap (λ (p : PassView). p.log ++ read ∷ []) is.same;
       version = is.version ∙ sym (ap (λ (p : PassView). length (seen_by p)) noted);
-      right = subst (λ (p : PassView). IsReadRight (config p) (seen_by p) read) (sym noted) (answered_right page access old between done is);
+      right = subst (λ (p : PassView). IsReadRight (pass_config p) (seen_by p) read) (sym noted) (answered_right page access old between done is);
       own = ap made_by noted ∙ is.own;
       left = omega (arith, left, less, some);
     })
@@ -211,7 +211,7 @@ touch_replies settings space page access does = at (grower settings space.areas 
 
 -- a fault after a heard note lies behind what was told
 pub behind_told : (told : List Entry) (before old new : PassView) (page : Page) (access : Access) (done : Faulted) → Hears before told old
-    → IsLater old new → IsDone page access old new done
+    → IsLater old new → IsFaultDone page access old new done
     → (length told ≤ done.version) × StartsWith (take done.version (seen_by new)) told
 behind_told told before old new page access done heard later is =
     let version : done.version ≡ length (seen_by new) = elim is [ inl read ↦ read.version | inr grown ↦ grown.call.version ] in
@@ -222,7 +222,7 @@ behind_told told before old new page access done heard later is =
 
 -- so it lies behind a call that the caller who told it had seen
 pub behind_call : (told : List Entry) (asked made before old new : PassView) (call : Call) (reply : Reply) (place : ℕ) (page : Page) (access : Access) (done : Faulted)
-    → Calls asked made call reply place → StartsWith told (seen_by made) → Hears before told old → IsLater old new → IsDone page access old new done
+    → Calls asked made call reply place → StartsWith told (seen_by made) → Hears before told old → IsLater old new → IsFaultDone page access old new done
     → place ≤ done.version
 behind_call told asked made before old new call reply place page access done called starts heard later is =
     let within : length (seen_by made) ≤ length told = omega (arith, sym (ap length starts) ∙ length-take (length (seen_by made)) told) in
@@ -235,8 +235,8 @@ grown_first reply area grown index is shown = let same : Grown area 0 ≡ Grown 
 
 -- a seat that saw the whole journal by a look has met the state
 pub met_by_look : (name : SpaceId) (before journal : List Entry) (old new : ReaderSeat) → IsLegalJournal name.config journal → new.seat.table_id ≡ name.table
-    → (found : ℕ) → areas.view new ≡ look_at (areas.view old) found journal Out → HasTurn old → StartsWith before (seen old)
-    → calls_by (areas.view old).caller before ≡ calls_by (areas.view old).caller (seen old) → Meets name before journal old new
+    → (found : ℕ) → areas.lock_view new ≡ look_at (areas.lock_view old) found journal Out → HasTurn old → StartsWith before (seen old)
+    → calls_by (areas.lock_view old).caller before ≡ calls_by (areas.lock_view old).caller (seen old) → MeetsState name before journal old new
 met_by_look name before journal old new legal table found is turn later own = record {
   table = table;
   legal = legal;
@@ -245,25 +245,25 @@ met_by_look name before journal old new legal table found is turn later own = re
   turn = ap (λ v. v.turn) is ∙ turn ∙ ap Some (sym (ap (λ v. v.caller) is));
   free = ap (λ v. v.stage) is;
   looks = ap (λ v. v.trace.looks) is;
-  look = (found, is ∙ ap (λ (j : List Entry). look_at (areas.view old) found j Out) (sym (ap (λ v. v.seen) is)));
+  look = (found, is ∙ ap (λ (j : List Entry). look_at (areas.lock_view old) found j Out) (sym (ap (λ v. v.seen) is)));
   later = later;
   own = own;
 }
 
 -- a pass that looked under the lock and holds nothing
 pub met_pass : (old shown : PassView) (seat : ReaderSeat) (takes reserved : ℕ) (settings : Config) (now before : List Entry) → IsPass old reserved → old ≡ shown
-    → config shown ≡ settings → IsLegalJournal settings now → seen seat ≡ now → now ≡ before → HasTurn seat → stage seat ≡ Out
-    → ((areas.view seat).caller ≡ caller old) × ((areas.view seat).config ≡ config old) → StartsWith before (seen_by old)
+    → pass_config shown ≡ settings → IsLegalJournal settings now → seen seat ≡ now → now ≡ before → HasTurn seat → stage seat ≡ Out
+    → ((areas.lock_view seat).caller ≡ caller old) × ((areas.lock_view seat).config ≡ pass_config old) → StartsWith before (seen_by old)
     → calls_by (caller old) before ≡ calls_by (caller old) (seen_by old) → IsPass (record old { reader = seat; takes = takes }) reserved
 met_pass old shown seat takes reserved settings now before kept shown_is settings_is legal seen_is now_is turn free same later own =
-    let config_is : (areas.view seat).config ≡ settings = same.1 ∙ ap config shown_is ∙ settings_is in
+    let config_is : (areas.lock_view seat).config ≡ settings = same.1 ∙ ap pass_config shown_is ∙ settings_is in
     let all : seen seat ≡ before = seen_is ∙ now_is in
     gone_on old (record old { reader = seat; takes = takes }) reserved kept
     (record {
       caller = same.0;
       config = same.1;
       turn = turn ∙ ap Some same.0 ∙ sym kept.keeps.turn;
-      legal = λ was. subst (λ (j : List Entry). IsLegalJournal (areas.view seat).config j) (sym seen_is)
+      legal = λ was. subst (λ (j : List Entry). IsLegalJournal (areas.lock_view seat).config j) (sym seen_is)
           (subst (λ (c : Config). IsLegalJournal c now) (sym config_is) legal);
       later = subst (λ (j : List Entry). StartsWith j (seen_by old)) (sym all) later;
       own = λ by has. subst (λ (k : ℕ). calls_by k (seen seat) ≡ calls_by k (seen_by old)) (same_Some (caller old) by (sym kept.keeps.turn ∙ has))
@@ -272,10 +272,10 @@ met_pass old shown seat takes reserved settings now before kept shown_is setting
 
 -- a fault that grew an area under the lock, of a pass that one operation was taken from
 pub grew : (page : Page) (access : Access) (old kept : PassView) (seat : ReaderSeat) (takes : ℕ) (settings : Config) (before now : List Entry) (area : Record)
-    (miss : Miss) (version : ℕ) → kept ≡ record old { left = old.left - 1 } → 0 < old.left → config old ≡ settings
+    (miss : Miss) (version : ℕ) → kept ≡ record old { left = old.left - 1 } → 0 < old.left → pass_config old ≡ settings
     → grows settings (list_after settings before) page.0 access ≡ true
     → now ≡ before ++ entry_by kept (Touch page access) (Grown area 0) ∷ [] → seen seat ≡ now
-    → ((areas.view seat).caller ≡ caller kept) × ((areas.view seat).config ≡ config kept) → StartsWith before (seen_by kept)
+    → ((areas.lock_view seat).caller ≡ caller kept) × ((areas.lock_view seat).config ≡ pass_config kept) → StartsWith before (seen_by kept)
     → calls_by (caller kept) before ≡ calls_by (caller kept) (seen_by kept) → version ≡ length (seen seat)
     → Grows page access old (record kept { reader = seat; takes = takes }) (record { verdict = Served area 0; path = Slow miss; version = version })
 grew page access old kept seat takes settings before now area miss version is some settings_is does now_is seen_is same later own version_is =

@@ -38,15 +38,15 @@ IsViewOf name viewed = (viewed.table ≡ name.table) × (viewed.nodes ≡ name.n
 
 -- a pass of the space: it is of its tables, and has as many operations as its caller may make
 abbrev pub IsPassOf : SpaceId → PassView → Type 0
-IsPassOf name pass = passes.IsPassOf (viewed_of name) name.operations pass
+IsPassOf name pass = passes.IsTablePass (viewed_of name) name.operations pass
 
 -- the passes of the space, one for each caller, each in its caller's place
 abbrev pub ArePasses : SpaceId → List PassView → Type 0
-ArePasses name all = passes.ArePasses (viewed_of name) name.operations all
+ArePasses name all = passes.AreTablePasses (viewed_of name) name.operations all
 
 -- each caller has at most its operations in the journal, and nobody else has an entry
-abbrev pub Within : List ℕ → List Entry → Type 0
-Within operations journal = (caller : ℕ) → length (calls_by caller journal) ≤ slice_index_or operations caller 0
+abbrev pub MadeWithin : List ℕ → List Entry → Type 0
+MadeWithin operations journal = (caller : ℕ) → length (calls_by caller journal) ≤ slice_index_or operations caller 0
 
 -- what a journal has behind the entries that it begins with
 abbrev pub since : List Entry → List Entry → List Entry
@@ -66,6 +66,6 @@ pub record IsNamed (name : SpaceId) (state : StateView) : Type 0 where
   pub begins : StartsWith state.journal name.before
   pub strangers : AreStrangers name.before
   pub callers : length name.operations ≤ 64
-  pub within : Within name.operations (since name.before state.journal)
+  pub within : MadeWithin name.operations (since name.before state.journal)
   pub few : length name.before + sum name.operations ≤ 16777216
   pub room : state.room ≡ length name.before + sum name.operations + 1

@@ -22,9 +22,9 @@ use Rattle.lock_core.specs.Events.{longer}
 use Rattle.fault_path.specs.declared.fast.Miss.{Miss}
 use Rattle.lock_core.specs.declared.stage.Stage.TheVariants.{Out}
 use Rattle.vma_lock.specs.declared.seats.ReaderSeat.{ReaderSeat}
-use Rattle.vma_lock.specs.Seats.{view, seen, stage, HasTurn}
+use Rattle.vma_lock.specs.Seats.{lock_view, seen, stage, HasTurn}
 use Rattle.vma_lock.specs.Views.{look_at}
-use Rattle.fault_path.specs.Passes.{PassView, IsLater, caller, config, seen_by, made_by, looks_of, walker}
+use Rattle.fault_path.specs.Passes.{PassView, IsLater, caller, pass_config, seen_by, made_by, looks_of, walker}
 use Rattle.fault_path.specs.Faults.{IsAnswer, Misses}
 use Rattle.mm_space.specs.Names.{SpaceId}
 use Rattle.mm_space.specs.declared.space.Faulted.{Faulted}
@@ -53,7 +53,7 @@ pub record Calls (old new : PassView) (made : Call) (answer : Reply) (place : �
 pub record Reads (old new : PassView) (read : Seen) : Type 0 where
   pub log : new.log ≡ old.log ++ read ∷ []
   pub version : version_of read ≡ length (seen_by new)
-  pub right : IsReadRight (config new) (seen_by new) read
+  pub right : IsReadRight (pass_config new) (seen_by new) read
   pub own : made_by new ≡ made_by old
   pub left : new.left + 1 ≡ old.left
 
@@ -87,21 +87,21 @@ pub record Hears (old : PassView) (told : List Entry) (new : PassView) : Type 0 
 
 -- a seat looked once, and took no other step
 abbrev pub LooksOnce : ReaderSeat → ReaderSeat → Type 0
-LooksOnce old new = (found : ℕ) × (view new ≡ look_at (view old) found (seen new) Out)
+LooksOnce old new = (found : ℕ) × (lock_view new ≡ look_at (lock_view old) found (seen new) Out)
 
 -- A seat with the turn of its caller has met the state of a space, whose journal these entries began: it has seen the whole journal, by
 -- one look more, and has its turn again. What it had seen lies before that, and no entry behind it there is of its caller.
-pub record Meets (name : SpaceId) (before journal : List Entry) (old new : ReaderSeat) : Type 0 where
+pub record MeetsState (name : SpaceId) (before journal : List Entry) (old new : ReaderSeat) : Type 0 where
   pub table : new.seat.table_id ≡ name.table
   pub legal : IsLegalJournal name.config journal
   pub all : seen new ≡ journal
-  pub same : ((view new).caller ≡ (view old).caller) × ((view new).config ≡ (view old).config)
+  pub same : ((lock_view new).caller ≡ (lock_view old).caller) × ((lock_view new).config ≡ (lock_view old).config)
   pub turn : HasTurn new
   pub free : stage new ≡ Out
-  pub looks : (view new).trace.looks ≡ (view old).trace.looks + 1
+  pub looks : (lock_view new).trace.looks ≡ (lock_view old).trace.looks + 1
   pub look : LooksOnce old new
   pub later : StartsWith before (seen old)
-  pub own : calls_by (view old).caller before ≡ calls_by (view old).caller (seen old)
+  pub own : calls_by (lock_view old).caller before ≡ calls_by (lock_view old).caller (seen old)
 
 -- A fault missed without the lock, for this cause, and then its seat looked once more, under the lock, and took no other step.
 pub record MissesFirst (page : ℕ) (miss : Miss) (old new : PassView) : Type 0 where
@@ -126,13 +126,13 @@ takes_on (Slow miss) = 1
 pub record Grows (page : Page) (access : Access) (old new : PassView) (done : Faulted) : Type 0 where
   pub area : Record
   pub call : Calls old new (Touch page access) (Grown area 0) done.version
-  pub grows : grows (config old) (list_after (config old) call.before) page.0 access ≡ true
+  pub grows : grows (pass_config old) (list_after (pass_config old) call.before) page.0 access ≡ true
   pub verdict : done.verdict ≡ Served area 0
   pub slow : (miss : Miss) × (done.path ≡ Slow miss)
 
 -- what a fault left: it is in the log, or it grew an area and its touch is in the journal
-abbrev pub IsDone : Page → Access → PassView → PassView → Faulted → Type 0
-IsDone page access old new done = Reads old new (Fault done.version page access done.verdict) ⊎ Grows page access old new done
+abbrev pub IsFaultDone : Page → Access → PassView → PassView → Faulted → Type 0
+IsFaultDone page access old new done = Reads old new (Fault done.version page access done.verdict) ⊎ Grows page access old new done
 
 -- A fault that grows no area was answered, and is not in the log yet: its verdict is that over the list after all that the pass has
 -- then seen, and nothing else was done but that the lock may have been taken.
@@ -140,13 +140,13 @@ pub record Answers (page : Page) (access : Access) (old new : PassView) (done : 
   pub same : new ≡ record old { reader = new.reader; nodes = new.nodes; takes = new.takes }
   pub own : made_by new ≡ made_by old
   pub version : done.version ≡ length (seen_by new)
-  pub still : grows (config new) (list_after (config new) (seen_by new)) page.0 access ≡ false
-  pub verdict : done.verdict ≡ verdict (config new) (list_after (config new) (seen_by new)) page.0 access
+  pub still : grows (pass_config new) (list_after (pass_config new) (seen_by new)) page.0 access ≡ false
+  pub verdict : done.verdict ≡ verdict (pass_config new) (list_after (pass_config new) (seen_by new)) page.0 access
 
 -- what was found for a fault: an answer that is not in the log yet, or an area that it grew
-abbrev pub Finds : Page → Access → PassView → PassView → Found → Type 0
-Finds page access old new (Answered done) = Answers page access old new done
-Finds page access old new (Entered done) = Grows page access old new done
+abbrev pub FindsPage : Page → Access → PassView → PassView → Found → Type 0
+FindsPage page access old new (Answered done) = Answers page access old new done
+FindsPage page access old new (Entered done) = Grows page access old new done
 
 -- what it is told as
 abbrev pub faulted_of : Found → Faulted

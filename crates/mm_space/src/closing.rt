@@ -1,6 +1,6 @@
 //! What closing a space does with its passes.
 ghost use Rattle.std.specs.Prelude.{◌≡◌, ◌≤◌, ◌<◌, ◌++◌, length, map, vec_len, vec_capacity, option_to_list, All, IfSome};
-ghost use Rattle.fault_path.specs.Passes.{SitsAt, IsLater};
+ghost use Rattle.fault_path.specs.Passes.{SitsAtTables, IsLater};
 ghost use Rattle.mm_space.specs.Closing.{IsIn};
 ghost use Rattle.mm_space.specs.Names.{IsViewOf, IsPassOf, ArePasses};
 
@@ -51,8 +51,8 @@ fn settle<N: SpaceName>(state: &mut Named<N>, pass: Pass) -> Pass
 
 /// Joins the last pass, if there is one, into the next, and adds its log to the logs.
 fn join_next(view: &FaultView, last: Option<Pass>, next: Pass, logs: &mut Vec<Vec<Seen>>) -> Pass
-    requires next { SitsAt view.now next }
-    requires last { IfSome last (SitsAt view.now) }
+    requires next { SitsAtTables view.now next }
+    requires last { IfSome last (SitsAtTables view.now) }
     requires room { vec_len logs.old < vec_capacity logs.old }
     ensures later { IsLater next result }
     ensures log { result.log ≡ next.log }

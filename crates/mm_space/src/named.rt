@@ -9,9 +9,9 @@ ghost use Rattle.area_rules.specs.Verdicts.{verdict};
 ghost use Rattle.lock_core.specs.declared.stage.Stage.TheVariants.{Out};
 ghost use Rattle.lock_core.specs.Core.{StartsWith};
 ghost use Rattle.lock_core.specs.Facts.{list_after};
-ghost use Rattle.vma_lock.specs.Seats.{view, seen, stage, HasTurn};
-ghost use Rattle.mm_space.specs.Names.{Within, since, IsNamed};
-ghost use Rattle.mm_space.specs.Spaces.{Meets};
+ghost use Rattle.vma_lock.specs.Seats.{lock_view, seen, stage, HasTurn};
+ghost use Rattle.mm_space.specs.Names.{MadeWithin, since, IsNamed};
+ghost use Rattle.mm_space.specs.Spaces.{MeetsState};
 
 use crate::name::SpaceName;
 use mm_state::MmState;
@@ -57,9 +57,9 @@ impl<N: SpaceName> Named<N> {
         requires table { seat.old.seat.table_id ≡ N.name.table }
         requires turn { HasTurn seat.old }
         requires free { stage seat.old ≡ Out }
-        requires room { length (calls_by (view seat.old).caller (seen seat.old)) < slice_index_or N.name.operations (view seat.old).caller 0 }
-        ensures meets { Meets N.name self.old.journal self.new.journal seat.old seat.new }
-        ensures entry { self.new.journal ≡ self.old.journal ++ record { caller = (view seat.old).caller; call = call.now; reply = result } ∷ [] }
+        requires room { length (calls_by (lock_view seat.old).caller (seen seat.old)) < slice_index_or N.name.operations (lock_view seat.old).caller 0 }
+        ensures meets { MeetsState N.name self.old.journal self.new.journal seat.old seat.new }
+        ensures entry { self.new.journal ≡ self.old.journal ++ record { caller = (lock_view seat.old).caller; call = call.now; reply = result } ∷ [] }
         ensures reply { result ≡ (step N.name.config (after N.name.config self.old.journal) call.now).reply }
     {
         let reply = self.state.apply(rt, seat, call);
@@ -79,10 +79,10 @@ impl<N: SpaceName> Named<N> {
         requires table { seat.old.seat.table_id ≡ N.name.table }
         requires turn { HasTurn seat.old }
         requires free { stage seat.old ≡ Out }
-        requires room { length (calls_by (view seat.old).caller (seen seat.old)) < slice_index_or N.name.operations (view seat.old).caller 0 }
+        requires room { length (calls_by (lock_view seat.old).caller (seen seat.old)) < slice_index_or N.name.operations (lock_view seat.old).caller 0 }
         requires grows { grows N.name.config (list_after N.name.config self.old.journal) page.0 access ≡ true }
-        ensures meets { Meets N.name self.old.journal self.new.journal seat.old seat.new }
-        ensures entry { self.new.journal ≡ self.old.journal ++ record { caller = (view seat.old).caller; call = Touch page access; reply = Grown result 0 } ∷ [] }
+        ensures meets { MeetsState N.name self.old.journal self.new.journal seat.old seat.new }
+        ensures entry { self.new.journal ≡ self.old.journal ++ record { caller = (lock_view seat.old).caller; call = Touch page access; reply = Grown result 0 } ∷ [] }
     {
         match self.apply(rt, seat, &Call::Touch { page, access }) {
             Reply::Grown { area, index: _ } => area,
@@ -95,7 +95,7 @@ impl<N: SpaceName> Named<N> {
         requires table { seat.old.seat.table_id ≡ N.name.table }
         requires turn { HasTurn seat.old }
         requires free { stage seat.old ≡ Out }
-        ensures meets { Meets N.name self.old.journal self.new.journal seat.old seat.new }
+        ensures meets { MeetsState N.name self.old.journal self.new.journal seat.old seat.new }
         ensures state { self.new ≡ self.old }
     {
         self.state.facts();
@@ -130,7 +130,7 @@ impl<N: SpaceName> Named<N> {
         ensures list { result.1 ≡ list_after N.name.config self.journal }
         ensures legal { IsLegalJournal N.name.config self.journal }
         ensures begins { StartsWith self.journal N.name.before }
-        ensures within { Within N.name.operations (since N.name.before self.journal) }
+        ensures within { MadeWithin N.name.operations (since N.name.before self.journal) }
     {
         self.state.finish()
     }

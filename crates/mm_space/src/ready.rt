@@ -2,7 +2,7 @@
 ghost use Rattle.std.specs.Prelude.{◌≡◌, ◌≤◌, ◌<◌, ◌+◌, [], IfOk, length, sum};
 ghost use Rattle.area_rules.specs.Steps.{IsLegalJournal};
 ghost use Rattle.area_rules.specs.Journals.{calls_by};
-ghost use Rattle.fault_path.specs.Passes.{AreFresh, AreUnused, IsLater, caller, config, seen_by, looks_of};
+ghost use Rattle.fault_path.specs.Passes.{AreFresh, AreUnused, IsLater, caller, pass_config, seen_by, looks_of};
 ghost use Rattle.mm_space.specs.Names.{viewed_of, AreStrangers};
 ghost use Rattle.mm_space.specs.Opening.{operations_of, met_space, AreOpened};
 ghost use Rattle.mm_types.specs.Config.{IsValidConfig};
@@ -125,7 +125,7 @@ fn meet_all(state: &mut MmState, passes: &mut [Pass])
 /// A pass that did nothing sees the whole journal.
 fn meet_one(state: &mut MmState, pass: &mut Pass)
     requires table { pass.old.reader.seat.table_id ≡ state.old.table }
-    requires config { config pass.old ≡ state.old.config }
+    requires config { pass_config pass.old ≡ state.old.config }
     requires made { calls_by (caller pass.old) state.old.journal ≡ [] }
     requires log { pass.old.log ≡ [] }
     ensures state { state.new ≡ state.old }

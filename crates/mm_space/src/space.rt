@@ -3,11 +3,11 @@ ghost use Rattle.std.specs.Prelude.{◌≡◌, ◌≤◌, ◌<◌, ◌+◌, ◌-
 ghost use Rattle.mm_types.specs.declared.area.Record.{Record};
 ghost use Rattle.mm_types.specs.declared.call.Seen.TheVariants.{Fault, Maps};
 ghost use Rattle.area_rules.specs.Journals.{IsReadRight};
-ghost use Rattle.fault_path.specs.Passes.{config, seen_by, looks_of, walker, IsLater};
+ghost use Rattle.fault_path.specs.Passes.{pass_config, seen_by, looks_of, walker, IsLater};
 ghost use Rattle.fault_path.specs.Faults.{WalksOnce};
 ghost use Rattle.mm_space.specs.declared.space.Path.TheVariants.{Slow};
 ghost use Rattle.mm_space.specs.Names.{IsViewOf, IsPassOf, ArePasses};
-ghost use Rattle.mm_space.specs.Spaces.{Calls, Reads, DoesNothing, LooksOnce, IsWay, takes_on, IsDone, Finds, faulted_of, Tells, Hears};
+ghost use Rattle.mm_space.specs.Spaces.{Calls, Reads, DoesNothing, LooksOnce, IsWay, takes_on, IsFaultDone, FindsPage, faulted_of, Tells, Hears};
 ghost use Rattle.mm_space.specs.Closing.{Closes};
 ghost use Rattle.mm_space.specs.Opening.{AreOpened};
 
@@ -122,7 +122,7 @@ impl<N: SpaceName> Space<N> {
         requires left { 0 < pass.old.left }
         ensures pass { IsPassOf N.name pass.new }
         ensures later { IsLater pass.old pass.new }
-        ensures done { IsDone page access pass.old pass.new result }
+        ensures done { IsFaultDone page access pass.old pass.new result }
         ensures walk { WalksOnce (walker pass.old) (walker pass.new) }
         ensures way { IsWay page.0 access pass.old pass.new result.verdict result.version result.path }
         ensures takes { pass.new.takes ≡ pass.old.takes + takes_on result.path }
@@ -142,7 +142,7 @@ impl<N: SpaceName> Space<N> {
         requires left { 0 < pass.old.left }
         ensures pass { IsPassOf N.name pass.new }
         ensures later { IsLater pass.old pass.new }
-        ensures found { Finds page access pass.old pass.new result }
+        ensures found { FindsPage page access pass.old pass.new result }
         ensures walk { WalksOnce (walker pass.old) (walker pass.new) }
         ensures way { IsWay page.0 access pass.old pass.new (faulted_of result).verdict (faulted_of result).version (faulted_of result).path }
         ensures takes { pass.new.takes ≡ pass.old.takes + takes_on (faulted_of result).path }
@@ -171,7 +171,7 @@ impl<N: SpaceName> Space<N> {
         requires left { 0 < pass.old.left }
         ensures pass { IsPassOf N.name pass.new }
         ensures later { IsLater pass.old pass.new }
-        ensures found { Finds page access pass.old pass.new result }
+        ensures found { FindsPage page access pass.old pass.new result }
         ensures nodes { pass.new.nodes ≡ pass.old.nodes }
         ensures look { LooksOnce pass.old.reader pass.new.reader }
         ensures path { (faulted_of result).path ≡ Slow miss }
@@ -264,7 +264,7 @@ impl<N: SpaceName> Space<N> {
 /// Adds a fault that was answered to the log.
 fn note(pass: &mut Pass, page: Page, access: Access, faulted: Faulted)
     requires left { 0 < pass.old.left }
-    requires right { IsReadRight (config pass.old) (seen_by pass.old) (Fault faulted.version page access faulted.verdict) }
+    requires right { IsReadRight (pass_config pass.old) (seen_by pass.old) (Fault faulted.version page access faulted.verdict) }
     requires version { faulted.version ≡ length (seen_by pass.old) }
     ensures { pass.new ≡ record pass.old { log = pass.old.log ++ Fault faulted.version page access faulted.verdict ∷ []; left = pass.old.left - 1 } }
 {

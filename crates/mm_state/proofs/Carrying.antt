@@ -15,7 +15,7 @@ use Rattle.vma_lock.specs.Seats.{slots_of}
 use Rattle.area_tree.specs.declared.shown.ShownArea.{ShownArea}
 use Rattle.area_tree.specs.AreaTrees.{AreaTreeView, shown_of, areas_of, areas_shown}
 use Rattle.mm_state.specs.declared.store.AreaStore.{AreaStore}
-use Rattle.mm_state.specs.Internal.AreaStores.{adds, adds_of, CanChange, IsShown, IsChanging}
+use Rattle.mm_state.specs.Internal.AreaStores.{adds, adds_of, CanChange, IsAreaShown, IsChanging}
 
 -- the store can be changed on
 pub can_change : (start store : AreaStore) (done : List Change) (tree : ℕ) → CanChange start → IsChanging start store done tree → CanChange store
@@ -82,7 +82,7 @@ pub left_there : (start store : AreaStore) (changes : List Change) (place left :
 left_there start store changes place left d tree changing plan within next =
     there_in (areas_of start.areas) (without (olds_of (drop left changes)) (areas_of start.areas)) changes place left d changing.ascend plan.members plan.distinct within next refl
 
-pub shown_contained : (tree : List ShownArea) (area : Record) → IsShown tree area → Contains (areas_shown tree) area
+pub shown_contained : (tree : List ShownArea) (area : Record) → IsAreaShown tree area → Contains (areas_shown tree) area
 shown_contained tree area (slot, member) = (
   member.0,
   omega (arith, member.1, length-map tree (λ (s : ShownArea). s.area)),
@@ -95,7 +95,7 @@ pub in_tree : (start store : AreaStore) (changes : List Change) (place left : �
     → All (Contains (areas_of store.areas)) (olds_of (get_or changes place d ∷ []))
 in_tree start store changes place left d tree changing plan within next =
     All-weaker (Contains rest) (Contains (areas_of store.areas))
-    (λ area member. shown_contained (shown_of store.areas) area (All-contains (IsShown (shown_of store.areas)) rest area changing.there member))
+    (λ area member. shown_contained (shown_of store.areas) area (All-contains (IsAreaShown (shown_of store.areas)) rest area changing.there member))
     (olds_of (get_or changes place d ∷ [])) (left_there start store changes place left d tree changing plan within next)
   where
     rest : List Record

@@ -20,15 +20,15 @@ use Rattle.split_merge.specs.Plans.{olds_of, news_of, starts_alike, without}
 use Rattle.split_merge.proofs.Counting.{contains_cases}
 use Rattle.split_merge.proofs.Going.{without_swap}
 use Rattle.area_slots.specs.declared.leaving.Leaving.{Leaving}
-use Rattle.area_slots.specs.Slots.{SlotSet, one_at, times, times_left}
+use Rattle.area_slots.specs.Slots.{SlotSet, one_at, times_of_slot, times_left}
 use Rattle.vma_lock.specs.declared.view.View.{View}
-use Rattle.vma_lock.specs.Seats.{Writes, sight, slots}
+use Rattle.vma_lock.specs.Seats.{WritesVmaTable, lock_sight, slots}
 use Rattle.area_tree.specs.declared.shown.ShownArea.{ShownArea}
 use Rattle.area_tree.specs.AreaTrees.{AreaTreeView, shown_of, areas_of, areas_shown, times_shown, AreasRise, IsEndOf, IsRoomFor}
 use Rattle.mm_state.specs.declared.store.AreaStore.{AreaStore}
 use Rattle.mm_state.specs.Shelves.{ShowsIt, Hangs}
 use Rattle.mm_state.specs.States.{MarksChanged, HaveLeft}
-use Rattle.mm_state.specs.Internal.AreaStores.{adds, weigh, IsBeside, after_leaving, HasPageOf, Moves, Carries, IsSane, IsShown, IsStill, ChangesAtMost, IsChanging, IsSameTree}
+use Rattle.mm_state.specs.Internal.AreaStores.{adds, weigh, DiffersInSlots, after_leaving, HasPageOf, Moves, Carries, IsSaneChange, IsAreaShown, IsStill, ChangesAtMost, IsChanging, HasSameAreaTree}
 use Rattle.mm_state.proofs.Rows.{packed_attached, packed_apart, not_packed}
 use Rattle.mm_state.proofs.Hanging.{hangs_permuted, alone, IsAlone, self, left_more, detached, altered, added, free_is_none}
 use Rattle.mm_state.proofs.Writing.{hangs_out}
@@ -37,9 +37,9 @@ use Rattle.mm_state.proofs.Storing.{moved_in}
 
 -- the free slots are as they were
 abbrev pub Unused : List SlotState → List SlotState → List ℕ → Type 0
-Unused old new free = (slot : ℕ) → 0 < times slot free → slot_at new slot ≡ slot_at old slot
+Unused old new free = (slot : ℕ) → 0 < times_of_slot slot free → slot_at new slot ≡ slot_at old slot
 
-pub beside_beside : {a b c : View} → IsBeside a b → IsBeside b c → IsBeside a c
+pub beside_beside : {a b c : View} → DiffersInSlots a b → DiffersInSlots b c → DiffersInSlots a c
 beside_beside first second = record {
   config = second.config ∙ first.config;
   seen = second.seen ∙ first.seen;
@@ -69,10 +69,10 @@ few_more old states slot state count more above (changed, short, same) = (
       ∙ same other (λ member. apart (Contains-append_right (slot ∷ []) changed other member)),
 )
 
-unused_more : (old states : List SlotState) (slot : ℕ) (state : SlotState) (free left : List ℕ) → times slot left ≡ 0
-    → ((other : ℕ) → times other left ≤ times other free) → Unused old states free → Unused old (set states slot state) left
+unused_more : (old states : List SlotState) (slot : ℕ) (state : SlotState) (free left : List ℕ) → times_of_slot slot left ≡ 0
+    → ((other : ℕ) → times_of_slot other left ≤ times_of_slot other free) → Unused old states free → Unused old (set states slot state) left
 unused_more old states slot state free left none fewer unused other some =
-    get_or-set_other states slot other state free_slot (λ same. absurd (omega (arith, ap (λ n. times n left) same, none, some)))
+    get_or-set_other states slot other state free_slot (λ same. absurd (omega (arith, ap (λ n. times_of_slot n left) same, none, some)))
     ∙ unused other (omega (arith, fewer other, some))
 
 -- no test is both
@@ -106,7 +106,7 @@ gone_more old states slot state tree between after gone more here within other =
         (gone other was (ap (λ (s : SlotState). is_detached s.row) (sym (get_or-set_other states slot other state free_slot (λ same. apart (sym same)))) ∙ is))
 
 -- a tree that changed but for its pairs, and changes so again
-pub tree_step : (first second third : AreaTreeView) → IsSameTree first second → IsSameTree second third → IsSameTree first third
+pub tree_step : (first second third : AreaTreeView) → HasSameAreaTree first second → HasSameAreaTree second third → HasSameAreaTree first third
 tree_step first second third one two = two
     ∙ ap (λ (t : AreaTreeView). record t { tree = record t.tree { pairs = third.tree.pairs; changed = third.tree.changed; free = third.tree.free }; records = third.records; sealed = third.sealed }) one
 
@@ -179,7 +179,7 @@ left_beside P limit start olds areas area rises member all k d within = (
     there = All-contains (Contains areas) (without olds areas) area (all_without (Contains areas) olds areas (λ j e inside. Contains-get_or areas j e inside)) member
 
 module _ (tree after rest : List ShownArea) (slot : ℕ) (area : Record) (is : IsOut tree after rest slot area) where
-  shown_then : (b : Record) → IsShown tree b → b.span.lo ≢ area.span.lo → IsShown after b
+  shown_then : (b : Record) → IsAreaShown tree b → b.span.lo ≢ area.span.lo → IsAreaShown after b
   shown_then b (place, member) apart = (
     place,
     is.stays (record { slot = place; area = b })
@@ -230,7 +230,7 @@ detach_step start store after done tree area changing member (slot, changes, out
     sum_by-append (λ (s : ShownArea). weight s.area) (shown_of store.areas) store.moved.items,
     ap (weigh weight) moved,
   );
-  there = left_then (IsShown (shown_of store.areas)) (IsShown (shown_of after.areas)) (olds_of done) (areas_of start.areas) area
+  there = left_then (IsAreaShown (shown_of store.areas)) (IsAreaShown (shown_of after.areas)) (olds_of done) (areas_of start.areas) area
       (shown_then (shown_of store.areas) (shown_of after.areas) (shown_of after.areas) slot area is) changing.there;
   still = rw changes.written.slots (left_then
       (λ b. IsStill (slots start.writer) (slots store.writer) (shown_of store.areas) b × (b.span.lo ≢ area.span.lo → Beside area b))
@@ -239,7 +239,7 @@ detach_step start store after done tree area changing member (slot, changes, out
       (left_beside (IsStill (slots start.writer) (slots store.writer) (shown_of store.areas)) start.areas.tree.limit 0 (olds_of done) (areas_of start.areas) area
       changing.rise member changing.still));
   unused = rw changes.written.slots (unused_more (slots start.writer) (slots store.writer) slot state store.slots.free after.slots.free
-      (ap (λ (s : SlotSet). times slot s.free) set_is ∙ one.taken.not_free) (λ other. omega (arith, ap (λ (s : SlotSet). times other s.free) set_is)) changing.unused);
+      (ap (λ (s : SlotSet). times_of_slot slot s.free) set_is ∙ one.taken.not_free) (λ other. omega (arith, ap (λ (s : SlotSet). times_of_slot other s.free) set_is)) changing.unused);
   free = omega (arith, changing.free, ap (λ (s : SlotSet). length s.free) set_is, sum_by-cons adds (Detach area) done);
   leaving = subst (λ (s : SlotSet). All (λ (l : Leaving). l.tree ≤ tree) s.left) (sym set_is)
       (All-permutation (λ (l : Leaving). l.tree ≤ tree) (leaving ∷ store.slots.left) (after_leaving store.slots slot tree).left (left_more store.slots slot tree)
@@ -257,7 +257,7 @@ detach_step start store after done tree area changing member (slot, changes, out
 }
   where
     seq : ℕ
-    seq = (sight store.writer).writer_state.seq
+    seq = (lock_sight store.writer).writer_state.seq
 
     shown : ShownArea
     shown = record { slot = slot; area = area }
@@ -403,7 +403,7 @@ is_moved store after slot area changed moves = by moves.after
     }
 
 pub alter_step : (start store after : AreaStore) (done : List Change) (tree : ℕ) (area changed : Record) → IsChanging start store done tree
-    → Contains (without (olds_of done) (areas_of start.areas)) area → IsSane (Alter area changed)
+    → Contains (without (olds_of done) (areas_of start.areas)) area → IsSaneChange (Alter area changed)
     → Carries store after (Alter area changed) tree → IsChanging start after (Alter area changed ∷ done) tree
 alter_step start store after done tree area changed changing member sane (slot, changes, moves, set_is) = record {
   table = changes.table ∙ changing.table;
@@ -425,7 +425,7 @@ alter_step start store after done tree area changed changing member sane (slot, 
     sum_by-append (λ (s : ShownArea). weight s.area) rest store.moved.items,
     sum_by-append (λ (s : ShownArea). weight s.area) (shown_of store.areas) store.moved.items,
   );
-  there = left_then (IsShown (shown_of store.areas)) (IsShown (shown_of after.areas)) (olds_of done) (areas_of start.areas) area
+  there = left_then (IsAreaShown (shown_of store.areas)) (IsAreaShown (shown_of after.areas)) (olds_of done) (areas_of start.areas) area
       (shown_then (shown_of store.areas) (shown_of after.areas) rest slot area m.is) changing.there;
   still = rw changes.written.slots (left_then
       (λ b. IsStill (slots start.writer) (slots store.writer) (shown_of store.areas) b × (b.span.lo ≢ area.span.lo → Beside area b))
@@ -434,7 +434,7 @@ alter_step start store after done tree area changed changing member sane (slot, 
       (left_beside (IsStill (slots start.writer) (slots store.writer) (shown_of store.areas)) start.areas.tree.limit 0 (olds_of done) (areas_of start.areas) area
       changing.rise member changing.still));
   unused = rw changes.written.slots (unused_more (slots start.writer) (slots store.writer) slot state store.slots.free after.slots.free
-      (ap (λ (s : SlotSet). times slot s.free) set_is ∙ one.taken.not_free) (λ other. omega (arith, ap (λ (s : SlotSet). times other s.free) set_is)) changing.unused);
+      (ap (λ (s : SlotSet). times_of_slot slot s.free) set_is ∙ one.taken.not_free) (λ other. omega (arith, ap (λ (s : SlotSet). times_of_slot other s.free) set_is)) changing.unused);
   free = omega (arith, changing.free, ap (λ (s : SlotSet). length s.free) set_is, sum_by-cons adds (Alter area changed) done);
   leaving = subst (λ (s : SlotSet). All (λ (l : Leaving). l.tree ≤ tree) s.left) (sym set_is) changing.leaving;
   same = tree_step start.areas store.areas after.areas changing.same changes.same;
@@ -450,7 +450,7 @@ alter_step start store after done tree area changed changing member sane (slot, 
 }
   where
     seq : ℕ
-    seq = (sight store.writer).writer_state.seq
+    seq = (lock_sight store.writer).writer_state.seq
 
     rest : List ShownArea
     rest = moves.rest
@@ -513,14 +513,14 @@ add_step start store after done tree area changing (slot, changes, tree_is, move
     sum_by-cons weight area (news_of done),
     sum_by_pushed (λ (s : ShownArea). weight s.area) now (shown_of store.areas ++ store.moved.items) (shown_of after.areas ++ after.moved.items) all,
   );
-  there = subst (λ (t : AreaTreeView). All (IsShown (shown_of t)) (without (olds_of done) (areas_of start.areas))) (sym tree_is) changing.there;
+  there = subst (λ (t : AreaTreeView). All (IsAreaShown (shown_of t)) (without (olds_of done) (areas_of start.areas))) (sym tree_is) changing.there;
   still = rw changes.written.slots (subst (λ (t : AreaTreeView). All (IsStill (slots start.writer) (set (slots store.writer) slot state) (shown_of t))
       (without (olds_of done) (areas_of start.areas))) (sym tree_is)
       (λ k d within place member. get_or-set_other (slots store.writer) slot place state free_slot
       (not_shown slot (shown_of store.areas) (get_or (without (olds_of done) (areas_of start.areas)) k d) none place member)
       ∙ changing.still k d within place member));
   unused = rw changes.written.slots (unused_more (slots start.writer) (slots store.writer) slot state store.slots.free after.slots.free was_free.0
-      (λ other. omega (arith, ap (λ (s : SlotSet). times other s.free) set_is, sum_by_push (one_at other) after.slots.free slot)) changing.unused);
+      (λ other. omega (arith, ap (λ (s : SlotSet). times_of_slot other s.free) set_is, sum_by_push (one_at other) after.slots.free slot)) changing.unused);
   free = omega (arith, changing.free, ap (λ (s : SlotSet). length s.free) set_is, length-append after.slots.free (slot ∷ []), sum_by-cons adds (Add area) done);
   leaving = subst (λ (left : List Leaving). All (λ (l : Leaving). l.tree ≤ tree) left) (ap (λ (s : SlotSet). s.left) set_is) changing.leaving;
   same = tree_step start.areas store.areas after.areas changing.same changes.same;
@@ -536,7 +536,7 @@ add_step start store after done tree area changing (slot, changes, tree_is, move
 }
   where
     seq : ℕ
-    seq = (sight store.writer).writer_state.seq
+    seq = (lock_sight store.writer).writer_state.seq
 
     now : ShownArea
     now = record { slot = slot; area = area }
@@ -558,18 +558,18 @@ add_step start store after done tree area changing (slot, changes, tree_is, move
     within : slot < length (slots store.writer)
     within = omega (arith, changing.hangs.sized, free.0)
 
-    freed : times slot store.slots.free ≡ times slot after.slots.free + 1
-    freed = omega (arith, ap (λ (s : SlotSet). times slot s.free) set_is, sum_by_push (one_at slot) after.slots.free slot, self slot)
+    freed : times_of_slot slot store.slots.free ≡ times_of_slot slot after.slots.free + 1
+    freed = omega (arith, ap (λ (s : SlotSet). times_of_slot slot s.free) set_is, sum_by_push (one_at slot) after.slots.free slot, self slot)
 
     more : (l : Leaving) → Contains store.slots.left l → Contains after.slots.left l
     more l member = subst (λ (left : List Leaving). Contains left l) (ap (λ (s : SlotSet). s.left) set_is) member
 
-    was_free : (times slot after.slots.free ≡ 0) × (times_left slot store.slots.left ≡ 0)
+    was_free : (times_of_slot slot after.slots.free ≡ 0) × (times_left slot store.slots.left ≡ 0)
     was_free = by (cases_lt slot store.slots.count) (changing.hangs.once slot)
       where
         by : ((slot < store.slots.count) ⊎ (store.slots.count ≤ slot))
-            → times_shown slot (shown_of store.areas ++ store.moved.items) + times slot store.slots.free + times_left slot store.slots.left ≡ (if nat_lt slot store.slots.count then 1 else 0)
-            → (times slot after.slots.free ≡ 0) × (times_left slot store.slots.left ≡ 0)
+            → times_shown slot (shown_of store.areas ++ store.moved.items) + times_of_slot slot store.slots.free + times_left slot store.slots.left ≡ (if nat_lt slot store.slots.count then 1 else 0)
+            → (times_of_slot slot after.slots.free ≡ 0) × (times_left slot store.slots.left ≡ 0)
         by (inl below) once =
             let bit : ◌≡◌ {A = ℕ} (if nat_lt slot store.slots.count then 1 else 0) 1 = grind (arith, nat_tests, below) in
             (omega (arith, once, bit, freed), omega (arith, once, bit, freed))
@@ -580,7 +580,7 @@ add_step start store after done tree area changing (slot, changes, tree_is, move
 
 -- any change of what is still to go
 pub change_step : (start store after : AreaStore) (done : List Change) (tree : ℕ) (change : Change) → IsChanging start store done tree
-    → All (Contains (without (olds_of done) (areas_of start.areas))) (olds_of (change ∷ [])) → IsSane change
+    → All (Contains (without (olds_of done) (areas_of start.areas))) (olds_of (change ∷ [])) → IsSaneChange change
     → Carries store after change tree → IsChanging start after (change ∷ done) tree
 change_step start store after done tree (Detach area) changing members sane carried =
     detach_step start store after done tree area changing (All-head (Contains (without (olds_of done) (areas_of start.areas))) area [] members) carried
@@ -589,11 +589,11 @@ change_step start store after done tree (Alter area changed) changing members sa
 change_step start store after done tree (Add area) changing members sane carried = add_step start store after done tree area changing carried
 
 -- what a tree shows is shown
-pub all_shown : (tree : List ShownArea) → All (IsShown tree) (areas_shown tree)
-all_shown tree = All-map (IsShown tree) (λ (s : ShownArea). s.area) tree (λ k d within. ((get_or tree k d).slot, Contains-get_or tree k d within))
+pub all_shown : (tree : List ShownArea) → All (IsAreaShown tree) (areas_shown tree)
+all_shown tree = All-map (IsAreaShown tree) (λ (s : ShownArea). s.area) tree (λ k d within. ((get_or tree k d).slot, Contains-get_or tree k d within))
 
 -- nothing was carried out
-pub none_changed : (store : AreaStore) (tree : ℕ) → Writes store.writer store.table → Hangs (slots store.writer) (shown_of store.areas ++ store.moved.items) store.slots
+pub none_changed : (store : AreaStore) (tree : ℕ) → WritesVmaTable store.writer store.table → Hangs (slots store.writer) (shown_of store.areas ++ store.moved.items) store.slots
     → store.moved.items ≡ [] → All (λ leaving. leaving.tree ≤ tree) store.slots.left → AreasRise store.areas.tree.limit 0 (areas_of store.areas) → IsChanging store store [] tree
 none_changed store tree mine hangs empty leaving rises = record {
   table = refl;

@@ -17,11 +17,11 @@ use Rattle.area_rules.specs.Tables.{AddressSpace}
 use Rattle.area_rules.specs.Steps.{step, after, IsReady, IsLegalJournal}
 use Rattle.area_rules.proofs.Journals.{after_ready, after-nil, after-push}
 use Rattle.lock_core.specs.Facts.{list_after}
-use Rattle.split_merge.specs.Plans.{PlanView, applied, IsKept}
+use Rattle.split_merge.specs.Plans.{PlanView, applied, IsPlannedFor}
 use Rattle.split_merge.specs.Calls.{IsPlannedCall}
 use Rattle.split_merge.proofs.Walking.{in_order}
 use Rattle.sys_calls.proofs.Keeping.{opened_space}
-use Rattle.vma_lock.specs.Seats.{config_of, journal}
+use Rattle.vma_lock.specs.Seats.{table_config, journal}
 use Rattle.area_tree.specs.AreaTrees.{areas_of, AreasRise}
 use Rattle.mm_state.specs.declared.store.AreaStore.{AreaStore}
 use Rattle.mm_state.specs.Internal.AreaStores.{IsEntered, IsPackable}
@@ -46,7 +46,7 @@ canonical_rise : (end : ℕ) (areas : List Record) → IsCanonical end areas →
 canonical_rise end areas c = let o = in_order end areas c in rise_each end 0 areas o.valid o.ordered (ends_each end areas c.below_end) (from_zero areas)
 
 -- a list with no area is kept
-pub kept_nil : (bounds : Bounds) (most : ℕ) → IsKept bounds most []
+pub kept_nil : (bounds : Bounds) (most : ℕ) → IsPlannedFor bounds most []
 kept_nil bounds most = record {
   canonical = record { valid = All-nil IsValid; below_end = All-nil (λ (area : Record). area.span.hi ≤ bounds.limit); ordered = tt; apart = tt };
   few = omega arith;
@@ -54,7 +54,7 @@ kept_nil bounds most = record {
 
 -- the state between two calls, and a call that was planned
 pub record IsPlanned (store : AreaStore) (config : Config) (entries : List Entry) (counters : Counters) (entry : Entry) (old new : PlanView) : Type 0 where
-  pub settings : config_of store.table ≡ config
+  pub settings : table_config store.table ≡ config
   pub journal_is : journal store.writer ≡ entries
   pub space : space_of (areas_of store.areas) counters ≡ after config entries
   pub valid : IsValidConfig config
@@ -79,11 +79,11 @@ pub entered : (store : AreaStore) (config : Config) (entries : List Entry) (coun
 entered store config entries counters entry old new p = record {
   reply = p.planned.reply ∙ ap (λ (s : AddressSpace). (step config s entry.call).reply) p.space
       ∙ ap (λ (c : Config). (step c (after c entries) entry.call).reply) (sym p.settings)
-      ∙ ap (λ (j : List Entry). (step (config_of store.table) (after (config_of store.table) j) entry.call).reply) (sym p.journal_is);
+      ∙ ap (λ (j : List Entry). (step (table_config store.table) (after (table_config store.table) j) entry.call).reply) (sym p.journal_is);
   plan = p.planned.makes.plan_of;
   result = p.planned.makes.result ∙ ap (λ (s : AddressSpace). s.areas) next
       ∙ ap (λ (c : Config). list_after c (entries ++ entry ∷ [])) (sym p.settings)
-      ∙ ap (λ (j : List Entry). list_after (config_of store.table) (j ++ entry ∷ [])) (sym p.journal_is);
+      ∙ ap (λ (j : List Entry). list_after (table_config store.table) (j ++ entry ∷ [])) (sym p.journal_is);
   real = p.planned.makes.real;
   sane = sane new.changes (areas_of store.areas) (step config (space_of (areas_of store.areas) counters) entry.call).space.areas before
       (subst (λ (s : AddressSpace). All IsPackable s.areas) (sym next)

@@ -16,7 +16,7 @@ use Rattle.lock_core.specs.Rows.{is_detached, attached_weight}
 use Rattle.lock_core.proofs.Weighing.{attached-set}
 use Rattle.split_merge.proofs.Counting.{contains_filter}
 use Rattle.area_slots.specs.declared.leaving.Leaving.{Leaving}
-use Rattle.area_slots.specs.Slots.{SlotSet, IsTaken, one_at, times, times_left, left_by, gone_by, gone_after, slots_of}
+use Rattle.area_slots.specs.Slots.{SlotSet, IsSlotTaken, one_at, times_of_slot, times_left, retired_by, gone_by, gone_after, slots_left}
 use Rattle.area_slots.proofs.Counting.{times-slots_of}
 use Rattle.area_tree.specs.declared.shown.ShownArea.{ShownArea}
 use Rattle.area_tree.specs.AreaTrees.{areas_shown, times_shown}
@@ -41,7 +41,7 @@ hangs_permuted states shown others slots moved hangs = record {
 
 -- a slot that shows an area is neither free nor left, and shows no other
 pub record IsAlone (shown : ShownArea) (rest : List ShownArea) (slots : SlotSet) : Type 0 where
-  pub taken : IsTaken slots shown.slot
+  pub taken : IsSlotTaken slots shown.slot
   pub no_other : times_shown shown.slot rest ≡ 0
 
 pub self : (slot : ℕ) → one_at slot slot ≡ 1
@@ -56,7 +56,7 @@ alone states shown rest slots hangs =
   where
     by : ((shown.slot < slots.count) ⊎ (slots.count ≤ shown.slot)) → times_shown shown.slot (shown ∷ rest) ≡ one_at shown.slot shown.slot + times_shown shown.slot rest
         → one_at shown.slot shown.slot ≡ 1
-        → times_shown shown.slot (shown ∷ rest) + times shown.slot slots.free + times_left shown.slot slots.left ≡ (if nat_lt shown.slot slots.count then 1 else 0)
+        → times_shown shown.slot (shown ∷ rest) + times_of_slot shown.slot slots.free + times_left shown.slot slots.left ≡ (if nat_lt shown.slot slots.count then 1 else 0)
         → IsAlone shown rest slots
     by (inl below) sum one once =
         let bit : ◌≡◌ {A = ℕ} (if nat_lt shown.slot slots.count then 1 else 0) 1 = grind (arith, nat_tests, below) in
@@ -67,7 +67,7 @@ alone states shown rest slots hangs =
 
 -- the slot of an area of the tree is taken
 pub taken_in : (states : List SlotState) (tree moved : List ShownArea) (slots : SlotSet) (shown : ShownArea) → Hangs states (tree ++ moved) slots → Contains tree shown
-    → IsTaken slots shown.slot
+    → IsSlotTaken slots shown.slot
 taken_in states tree moved slots shown hangs member =
     let some = get_or-le-sum_by (λ (s : ShownArea). one_at shown.slot s.slot) tree member.0 shown member.1 in
     let one = ap (λ (s : ShownArea). one_at shown.slot s.slot) member.2 ∙ self shown.slot in
@@ -75,8 +75,8 @@ taken_in states tree moved slots shown hangs member =
     by (cases_lt shown.slot slots.count) (omega (arith, some, one, both)) (hangs.once shown.slot)
   where
     by : ((shown.slot < slots.count) ⊎ (slots.count ≤ shown.slot)) → 1 ≤ times_shown shown.slot (tree ++ moved)
-        → times_shown shown.slot (tree ++ moved) + times shown.slot slots.free + times_left shown.slot slots.left ≡ (if nat_lt shown.slot slots.count then 1 else 0)
-        → IsTaken slots shown.slot
+        → times_shown shown.slot (tree ++ moved) + times_of_slot shown.slot slots.free + times_left shown.slot slots.left ≡ (if nat_lt shown.slot slots.count then 1 else 0)
+        → IsSlotTaken slots shown.slot
     by (inl below) some once =
         let bit : ◌≡◌ {A = ℕ} (if nat_lt shown.slot slots.count then 1 else 0) 1 = grind (arith, nat_tests, below) in
         record { below = below; not_free = omega arith; not_left = omega arith }
@@ -116,7 +116,7 @@ areas-cons weight shown rest = sum_by-cons (λ (area : Record). weight (packed a
 pub left_more : (slots : SlotSet) (slot tree : ℕ) → IsPermutation (record { slot = slot; tree = tree } ∷ slots.left) (after_leaving slots slot tree).left
 left_more slots slot tree =
     let leaving : Leaving = record { slot = slot; tree = tree } in
-    let both = IsPermutation-filter_both (left_by tree) (λ (l : Leaving). not (left_by tree l)) (λ l. refl) slots.left in
+    let both = IsPermutation-filter_both (retired_by tree) (λ (l : Leaving). not (retired_by tree l)) (λ l. refl) slots.left in
     IsPermutation-trans (leaving ∷ slots.left) (leaving ∷ (gone_by tree slots.left ++ gone_after tree slots.left)) (gone_by tree slots.left ++ leaving ∷ gone_after tree slots.left)
     (IsPermutation-cons leaving slots.left (gone_by tree slots.left ++ gone_after tree slots.left) both)
     (IsPermutation-sym (gone_by tree slots.left ++ leaving ∷ gone_after tree slots.left) (leaving ∷ (gone_by tree slots.left ++ gone_after tree slots.left))
@@ -217,13 +217,13 @@ altered states shown rest slots seq area hangs = record {
 pub free_is_none : (states : List SlotState) (shown : List ShownArea) (slots after : SlotSet) (slot : ℕ) → Hangs states shown slots
     → slots ≡ record after { free = after.free ++ slot ∷ [] } → (slot < slots.count) × (times_shown slot shown ≡ 0)
 free_is_none states shown slots after slot hangs is =
-    let sum = ap (λ (s : SlotSet). times slot s.free) is ∙ sum_by_push (one_at slot) after.free slot in
+    let sum = ap (λ (s : SlotSet). times_of_slot slot s.free) is ∙ sum_by_push (one_at slot) after.free slot in
     let one = self slot in
     let once = hangs.once slot in
     by (cases_lt slot slots.count) sum one once
   where
-    by : ((slot < slots.count) ⊎ (slots.count ≤ slot)) → times slot slots.free ≡ times slot after.free + one_at slot slot → one_at slot slot ≡ 1
-        → times_shown slot shown + times slot slots.free + times_left slot slots.left ≡ (if nat_lt slot slots.count then 1 else 0)
+    by : ((slot < slots.count) ⊎ (slots.count ≤ slot)) → times_of_slot slot slots.free ≡ times_of_slot slot after.free + one_at slot slot → one_at slot slot ≡ 1
+        → times_shown slot shown + times_of_slot slot slots.free + times_left slot slots.left ≡ (if nat_lt slot slots.count then 1 else 0)
         → (slot < slots.count) × (times_shown slot shown ≡ 0)
     by (inl below) sum one once =
         let bit : ◌≡◌ {A = ℕ} (if nat_lt slot slots.count then 1 else 0) 1 = grind (arith, nat_tests, below) in
@@ -249,7 +249,7 @@ added states shown slots after slot seq area hangs is = record {
   once = λ other. omega (
     arith,
     sum_by-cons (λ (s : ShownArea). one_at other s.slot) now shown,
-    subst (λ (s : SlotSet). times_shown other shown + times other s.free + times_left other s.left ≡ (if nat_lt other s.count then 1 else 0)) is (hangs.once other),
+    subst (λ (s : SlotSet). times_shown other shown + times_of_slot other s.free + times_left other s.left ≡ (if nat_lt other s.count then 1 else 0)) is (hangs.once other),
     sum_by_push (one_at other) after.free slot,
   );
   rows = All-cons (ShowsIt (set states slot changed)) now shown (ap (λ (s : SlotState). s.row) (get_or-set_same states slot changed free_slot within))
@@ -289,23 +289,23 @@ added states shown slots after slot seq area hangs is = record {
 
 -- those that left by a tree and those that left after it are all that left
 pub parted_left : (tree : ℕ) (left : List Leaving) → IsPermutation left (gone_by tree left ++ gone_after tree left)
-parted_left tree left = IsPermutation-filter_both (left_by tree) (λ (l : Leaving). not (left_by tree l)) (λ l. refl) left
+parted_left tree left = IsPermutation-filter_both (retired_by tree) (λ (l : Leaving). not (retired_by tree l)) (λ l. refl) left
 
 -- what left by a tree is free again
 pub seen_freed : (slots after : SlotSet) (tree : ℕ)
-    → after ≡ record slots { free = slots.free ++ slots_of (gone_by tree slots.left); left = gone_after tree slots.left } → IsFreed tree slots after
+    → after ≡ record slots { free = slots.free ++ slots_left (gone_by tree slots.left); left = gone_after tree slots.left } → IsFreed tree slots after
 seen_freed slots after tree is = subst (IsFreed tree slots) (sym is) record {
   count = refl;
   sum = omega (
     arith,
-    length-append slots.free (slots_of (gone_by tree slots.left)),
+    length-append slots.free (slots_left (gone_by tree slots.left)),
     length-map (gone_by tree slots.left) (λ (l : Leaving). l.slot),
     length-append (gone_by tree slots.left) (gone_after tree slots.left),
     length_permutation slots.left (gone_by tree slots.left ++ gone_after tree slots.left) (parted_left tree slots.left),
   );
   each = λ slot. omega (
     arith,
-    sum_by-append (one_at slot) slots.free (slots_of (gone_by tree slots.left)),
+    sum_by-append (one_at slot) slots.free (slots_left (gone_by tree slots.left)),
     times-slots_of slot (gone_by tree slots.left),
     sum_by-append (λ (l : Leaving). one_at slot l.slot) (gone_by tree slots.left) (gone_after tree slots.left),
     sum_by-IsPermutation (λ (l : Leaving). one_at slot l.slot) slots.left (gone_by tree slots.left ++ gone_after tree slots.left) (parted_left tree slots.left),
@@ -317,13 +317,13 @@ seen_freed slots after tree is = subst (IsFreed tree slots) (sym is) record {
 pub freed_upto : (elapsed last : ℕ) (old new : SlotSet) → IsFreed elapsed old new → All (λ leaving. leaving.tree ≤ last) old.left
     → All (λ leaving. leaving.tree ≤ last) new.left
 freed_upto elapsed last old new freed all = subst (λ (left : List Leaving). All (λ leaving. leaving.tree ≤ last) left) (sym freed.left)
-    (All-filter (λ (l : Leaving). not (left_by elapsed l)) (λ (l : Leaving). l.tree ≤ last) old.left all)
+    (All-filter (λ (l : Leaving). not (retired_by elapsed l)) (λ (l : Leaving). l.tree ≤ last) old.left all)
 
 -- what left after the elapsed tree is left still
 pub freed_waits : (elapsed : ℕ) (old new : SlotSet) → IsFreed elapsed old new → (leaving : Leaving) → Contains old.left leaving → elapsed < leaving.tree
     → Contains new.left leaving
 freed_waits elapsed old new freed leaving member later = subst (λ (left : List Leaving). Contains left leaving) (sym freed.left)
-    (contains_filter (λ (l : Leaving). not (left_by elapsed l)) old.left leaving member (left_later elapsed leaving.tree later))
+    (contains_filter (λ (l : Leaving). not (retired_by elapsed l)) old.left leaving member (left_later elapsed leaving.tree later))
   where
     left_later : (elapsed later : ℕ) → elapsed < later → not (nat_le later elapsed) ≡ true
     left_later elapsed later above = grind (arith, nat_tests)
@@ -355,7 +355,7 @@ pub hangs_freed : (states : List SlotState) (shown : List ShownArea) (elapsed : 
 hangs_freed states shown elapsed slots after freed hangs = record {
   sized = hangs.sized ∙ sym freed.count;
   counted = omega (arith, hangs.counted, freed.sum, freed.count);
-  once = λ slot. subst (λ count. times_shown slot shown + times slot after.free + times_left slot after.left ≡ (if nat_lt slot count then 1 else 0)) (sym freed.count)
+  once = λ slot. subst (λ count. times_shown slot shown + times_of_slot slot after.free + times_left slot after.left ≡ (if nat_lt slot count then 1 else 0)) (sym freed.count)
       (omega (arith, hangs.once slot, freed.each slot));
   rows = hangs.rows;
   others = hangs.others;
@@ -366,7 +366,7 @@ hangs_freed states shown elapsed slots after freed hangs = record {
 pub at_most_once : (states : List SlotState) (shown : List ShownArea) (slots : SlotSet) (slot : ℕ) → Hangs states shown slots → times_shown slot shown ≤ 1
 at_most_once states shown slots slot hangs = by (cases_lt slot slots.count) (hangs.once slot)
   where
-    by : ((slot < slots.count) ⊎ (slots.count ≤ slot)) → times_shown slot shown + times slot slots.free + times_left slot slots.left ≡ (if nat_lt slot slots.count then 1 else 0)
+    by : ((slot < slots.count) ⊎ (slots.count ≤ slot)) → times_shown slot shown + times_of_slot slot slots.free + times_left slot slots.left ≡ (if nat_lt slot slots.count then 1 else 0)
         → times_shown slot shown ≤ 1
     by place is = grind (arith, nat_tests)
 
@@ -374,6 +374,6 @@ at_most_once states shown slots slot hangs = by (cases_lt slot slots.count) (han
 pub none_above : (states : List SlotState) (shown : List ShownArea) (slots : SlotSet) (slot : ℕ) → Hangs states shown slots → slots.count ≤ slot → times_shown slot shown ≡ 0
 none_above states shown slots slot hangs above = by above (hangs.once slot)
   where
-    by : slots.count ≤ slot → times_shown slot shown + times slot slots.free + times_left slot slots.left ≡ (if nat_lt slot slots.count then 1 else 0)
+    by : slots.count ≤ slot → times_shown slot shown + times_of_slot slot slots.free + times_left slot slots.left ≡ (if nat_lt slot slots.count then 1 else 0)
         → times_shown slot shown ≡ 0
     by past is = grind (arith, nat_tests)

@@ -9,7 +9,7 @@ use Rattle.mm_types.specs.declared.area.Prot.{Prot}
 use Rattle.mm_types.specs.declared.area.Attr.{Attr}
 use Rattle.mm_types.specs.declared.area.Record.{Record}
 use Rattle.area_list.specs.Areas.{has_page}
-use Rattle.split_merge.specs.Internal.Sorted.{BeginsAscend}
+use Rattle.split_merge.specs.Sorted.{BeginsAscend}
 use Rattle.area_tree.specs.declared.shown.ShownArea.{ShownArea}
 use Rattle.area_tree.specs.AreaTrees.{areas_shown, times_shown, AreasRise}
 use Rattle.mm_state.specs.Internal.AreaStores.{at_page, weigh, IsWithin, CanHold}

@@ -15,14 +15,14 @@ use Rattle.split_merge.proofs.Counting.{contains_cases}
 use Rattle.split_merge.proofs.Replacing.{olds_of-append}
 use Rattle.split_merge.proofs.Going.{without-append, without_swap}
 use Rattle.split_merge.proofs.Leaving.{there_in}
-use Rattle.area_slots.specs.Slots.{SlotSet, IsTaken}
-use Rattle.vma_lock.specs.Seats.{slots_of, Writes, sight, slots}
+use Rattle.area_slots.specs.Slots.{SlotSet, IsSlotTaken}
+use Rattle.vma_lock.specs.Seats.{slots_of, WritesVmaTable, lock_sight, slots}
 use Rattle.area_tree.specs.declared.shown.ShownArea.{ShownArea}
 use Rattle.area_tree.specs.AreaTrees.{AreaTreeView, shown_at, shown_of, areas_of, areas_shown, AreasRise, Adjoin}
 use Rattle.mm_state.specs.declared.store.AreaStore.{AreaStore}
 use Rattle.mm_state.specs.Shelves.{Hangs}
-use Rattle.mm_state.specs.Internal.AreaStores.{IsBeside, IsSameTree, CanChange, Carries, IsShown, IsChanging, IsSane}
-use Rattle.mm_state.specs.Internal.Runs.{IsRun, IsLetGo, CarriesAll}
+use Rattle.mm_state.specs.Internal.AreaStores.{DiffersInSlots, HasSameAreaTree, CanChange, Carries, IsAreaShown, IsChanging, IsSaneChange}
+use Rattle.mm_state.specs.Internal.Runs.{IsRunOfRemovals, IsLetGo, CarriesAll}
 use Rattle.mm_state.proofs.Hanging.{taken_in, detached}
 use Rattle.mm_state.proofs.Writing.{hangs_out}
 use Rattle.mm_state.proofs.Changing.{beside_beside, tree_step, all_without, old_pages, change_step}
@@ -47,8 +47,8 @@ pub record IsLettingGo (start store : AreaStore) (done : List Change) (tree : �
   pub parted : IsPermutation (gone ++ rest) (shown_of start.areas)
   pub hangs : Hangs (slots store.writer) (rest ++ start.moved.items) store.slots
   pub table : store.table ≡ start.table
-  pub mine : Writes store.writer store.table
-  pub beside : IsBeside (sight start.writer) (sight store.writer)
+  pub mine : WritesVmaTable store.writer store.table
+  pub beside : DiffersInSlots (lock_sight start.writer) (lock_sight store.writer)
   pub count : store.slots.count ≡ start.slots.count
   pub areas : store.areas ≡ start.areas
 
@@ -69,7 +69,7 @@ none_gone start tree can = record {
 }
 
 -- the areas of a run begin where it does, or above
-run_above : (gone : List ShownArea) (lo hi : ℕ) → IsRun lo hi (map goes gone) → ((s : ShownArea) → Contains gone s → s.area.span.lo < s.area.span.hi)
+run_above : (gone : List ShownArea) (lo hi : ℕ) → IsRunOfRemovals lo hi (map goes gone) → ((s : ShownArea) → Contains gone s → s.area.span.lo < s.area.span.hi)
     → (s : ShownArea) → Contains gone s → lo ≤ s.area.span.lo
 run_above [] lo hi run some s member = absurd (omega (arith, member.1))
 run_above (first ∷ gone) lo hi run some s member = elim (contains_cases first gone s member) [
@@ -96,21 +96,21 @@ module _ (start store : AreaStore) (done : List Change) (tree : ℕ) (going : Is
   had_pages s member = old_pages limit 0 (areas_of start.areas) s.area rises (contained (shown_of start.areas) s (were_there s member))
 
   -- an area that comes before a run of changes that were carried out has not gone
-  pub still_in : (s : ShownArea) (hi : ℕ) → Contains (shown_of start.areas) s → IsRun s.area.span.hi hi done → Contains going.rest s
+  pub still_in : (s : ShownArea) (hi : ℕ) → Contains (shown_of start.areas) s → IsRunOfRemovals s.area.span.hi hi done → Contains going.rest s
   still_in s hi member run = by (Contains-append_cases going.gone going.rest s
       (Contains-permutation (shown_of start.areas) (going.gone ++ going.rest) s (IsPermutation-sym (going.gone ++ going.rest) (shown_of start.areas) going.parted) member))
     where
       by : Contains going.gone s ⊎ Contains going.rest s → Contains going.rest s
       by (inl went) = absurd (omega (
         arith,
-        run_above going.gone s.area.span.hi hi (subst (IsRun s.area.span.hi hi) (sym going.is) run) had_pages s went,
+        run_above going.gone s.area.span.hi hi (subst (IsRunOfRemovals s.area.span.hi hi) (sym going.is) run) had_pages s went,
         had_pages s went,
       ))
       by (inr stays) = stays
 
 -- the slot of an area that has not gone is taken
 pub in_place : (start store : AreaStore) (done : List Change) (tree : ℕ) (going : IsLettingGo start store done tree) (s : ShownArea) → Contains going.rest s
-    → IsTaken store.slots s.slot
+    → IsSlotTaken store.slots s.slot
 in_place start store done tree going s member = taken_in (slots store.writer) going.rest start.moved.items store.slots s going.hangs member
 
 -- one slot more is let go
@@ -125,7 +125,7 @@ go_step start store after done tree going s member let_go = record {
       (IsPermutation-sym (going.gone ++ s ∷ others) (s ∷ (going.gone ++ others)) (IsPermutation-middle going.gone s others))
       (IsPermutation-trans (going.gone ++ s ∷ others) (going.gone ++ going.rest) (shown_of start.areas)
       (IsPermutation-append_right going.gone (s ∷ others) going.rest out) going.parted);
-  hangs = rw let_go.written.slots (rw let_go.slots (detached (slots store.writer) s (others ++ start.moved.items) store.slots (sight store.writer).writer_state.seq tree
+  hangs = rw let_go.written.slots (rw let_go.slots (detached (slots store.writer) s (others ++ start.moved.items) store.slots (lock_sight store.writer).writer_state.seq tree
       (hangs_out (slots store.writer) going.rest others start.moved.items store.slots s going.hangs out)));
   table = ap (λ (b : AreaStore). b.table) let_go.same ∙ going.table;
   mine = let_go.mine;
@@ -142,7 +142,7 @@ go_step start store after done tree going s member let_go = record {
 
 -- the slot that shows the area of the next change
 module _ (start store : AreaStore) (changes : List Change) (place left : ℕ) (d : Change) (slot : ℕ) (area : Record) (lo hi limit tree : ℕ)
-    (going : IsLettingGo start store (drop left changes) tree) (rises : AreasRise limit 0 (areas_of start.areas)) (run : IsRun lo hi changes)
+    (going : IsLettingGo start store (drop left changes) tree) (rises : AreasRise limit 0 (areas_of start.areas)) (run : IsRunOfRemovals lo hi changes)
     (within : place < length changes) (next : place + 1 ≡ left) (is : get_or changes place d ≡ Detach area)
     (member : Contains (shown_of store.areas) (record { slot = slot; area = area })) where
   next_in : Contains going.rest (record { slot = slot; area = area })
@@ -150,7 +150,7 @@ module _ (start store : AreaStore) (changes : List Change) (place left : ℕ) (d
       (subst (λ (t : AreaTreeView). Contains (shown_of t) (record { slot = slot; area = area })) going.areas member)
       (run_after lo hi changes place left d area run within next is)
 
-  pub next_taken : IsTaken store.slots slot
+  pub next_taken : IsSlotTaken store.slots slot
   next_taken = in_place start store (drop left changes) tree going (record { slot = slot; area = area }) next_in
 
   pub next_below : CanChange start → slot < slots_of store.table
@@ -163,14 +163,14 @@ module _ (start store : AreaStore) (changes : List Change) (place left : ℕ) (d
 
 -- the next area is in the tree
 pub next_there : (start store : AreaStore) (changes : List Change) (place left : ℕ) (d : Change) (area : Record) (lo hi tree : ℕ)
-    → IsLettingGo start store (drop left changes) tree → All (Contains (areas_of start.areas)) (olds_of changes) → IsRun lo hi changes
+    → IsLettingGo start store (drop left changes) tree → All (Contains (areas_of start.areas)) (olds_of changes) → IsRunOfRemovals lo hi changes
     → place < length changes → get_or changes place d ≡ Detach area → Contains (areas_of store.areas) area
 next_there start store changes place left d area lo hi tree going olds run within is =
     subst (λ (t : AreaTreeView). Contains (areas_of t) area) (sym going.areas)
     (All-contains (Contains (areas_of start.areas)) (olds_of changes) area olds (run_old lo hi changes place d area run within is))
 
 -- the areas of a run that went adjoin each other
-pub run_adjoins : (gone : List ShownArea) (lo hi : ℕ) → IsRun lo hi (map goes gone) → ((s : ShownArea) → Contains gone s → s.area.span.lo < s.area.span.hi)
+pub run_adjoins : (gone : List ShownArea) (lo hi : ℕ) → IsRunOfRemovals lo hi (map goes gone) → ((s : ShownArea) → Contains gone s → s.area.span.lo < s.area.span.hi)
     → Adjoin lo hi (areas_shown gone)
 run_adjoins [] lo hi run some = run
 run_adjoins (first ∷ gone) lo hi run some = (
@@ -201,7 +201,7 @@ recorded areas s (place, within, is) = ap (λ n. shown_at areas.records (record 
     same = sym (get_or-map (shown_at areas.records) areas.tree.pairs place (pair_for s) s (omega (arith, within, length-map areas.tree.pairs (shown_at areas.records)))) ∙ is
 
 -- a slot that is let go, beside a tree that loses its area
-pub carries : (start store : AreaStore) (old new : AreaTreeView) (s : ShownArea) (tree : ℕ) → IsLetGo start store s.slot tree → IsSameTree old new
+pub carries : (start store : AreaStore) (old new : AreaTreeView) (s : ShownArea) (tree : ℕ) → IsLetGo start store s.slot tree → HasSameAreaTree old new
     → IsPermutation (s ∷ shown_of new) (shown_of old) → Carries (record start { areas = old }) (record store { areas = new }) (goes s) tree
 carries start store old new s tree let_go same out = (
   s.slot,
@@ -217,8 +217,8 @@ carries start store old new s tree let_go same out = (
   let_go.slots,
 )
 
-module _ (start : AreaStore) (areas : AreaTreeView) (tree : ℕ) (same : IsSameTree start.areas areas) (records : areas.records ≡ start.areas.records) where
-  same_with : (pairs : List Pair) → IsSameTree start.areas (with_pairs areas pairs)
+module _ (start : AreaStore) (areas : AreaTreeView) (tree : ℕ) (same : HasSameAreaTree start.areas areas) (records : areas.records ≡ start.areas.records) where
+  same_with : (pairs : List Pair) → HasSameAreaTree start.areas (with_pairs areas pairs)
   same_with pairs = ap (λ (t : AreaTreeView). with_pairs t pairs) same
 
   -- each area goes out of a tree that has those that go later
@@ -259,7 +259,7 @@ module _ (start : AreaStore) (areas : AreaTreeView) (tree : ℕ) (same : IsSameT
 
 -- every slot was let go
 module _ (start store : AreaStore) (changes : List Change) (left lo hi limit tree : ℕ) (going : IsLettingGo start store (drop left changes) tree)
-    (rises : AreasRise limit 0 (areas_of start.areas)) (run : IsRun lo hi changes) (some : 0 < length changes) (none : left ≤ 0) where
+    (rises : AreasRise limit 0 (areas_of start.areas)) (run : IsRunOfRemovals lo hi changes) (some : 0 < length changes) (none : left ≤ 0) where
   all_let_go : IsLettingGo start store changes tree
   all_let_go = let is : left ≡ 0 = omega arith in subst (λ n. IsLettingGo start store (drop n changes) tree) is going
 
@@ -268,7 +268,7 @@ module _ (start store : AreaStore) (changes : List Change) (left lo hi limit tre
       (were_there start store changes tree all_let_go limit rises (get_or all_let_go.gone k d) (Contains-get_or all_let_go.gone k d within))
 
   all_adjoin : Adjoin lo hi (areas_shown all_let_go.gone)
-  all_adjoin = run_adjoins all_let_go.gone lo hi (subst (IsRun lo hi) (sym all_let_go.is) run) (had_pages start store changes tree all_let_go limit rises)
+  all_adjoin = run_adjoins all_let_go.gone lo hi (subst (IsRunOfRemovals lo hi) (sym all_let_go.is) run) (had_pages start store changes tree all_let_go limit rises)
 
   pub can_remove : (taken : List ShownArea) × All (Contains (shown_of store.areas)) taken × Adjoin lo hi (areas_shown taken) × (length taken ≡ length changes)
       × (0 < length changes)
@@ -278,7 +278,7 @@ module _ (start store : AreaStore) (changes : List Change) (left lo hi limit tre
       → ((taken : List ShownArea) → All (Contains (shown_of store.areas)) taken → Adjoin lo hi (areas_shown taken) → IsPermutation (taken ++ shown_of areas) (shown_of store.areas))
       → CarriesAll start (record store { areas = areas }) changes tree
   detached_all areas same shown = all_gone start areas tree
-      (tree_step start.areas store.areas areas (subst (IsSameTree start.areas) (sym all_let_go.areas) refl) (subst (IsSameTree store.areas) (sym same) refl))
+      (tree_step start.areas store.areas areas (subst (HasSameAreaTree start.areas) (sym all_let_go.areas) refl) (subst (HasSameAreaTree store.areas) (sym same) refl))
       (ap (λ (t : AreaTreeView). t.records) same ∙ ap (λ (t : AreaTreeView). t.records) all_let_go.areas) store changes all_let_go some
       (subst (λ (t : AreaTreeView). IsPermutation (all_let_go.gone ++ shown_of areas) (shown_of t)) all_let_go.areas (shown all_let_go.gone all_there all_adjoin))
 
@@ -315,7 +315,7 @@ pub part_in_tree : (start store : AreaStore) (changes part : List Change) (first
     → IsPlanOf (areas_of start.areas) changes → part ++ drop left changes ≡ drop first changes → All (Contains (areas_of store.areas)) (olds_of part)
 part_in_tree start store changes part first left tree changing plan is =
     All-weaker (Contains rest) (Contains (areas_of store.areas))
-    (λ area member. shown_contained (shown_of store.areas) area (All-contains (IsShown (shown_of store.areas)) rest area changing.there member))
+    (λ area member. shown_contained (shown_of store.areas) area (All-contains (IsAreaShown (shown_of store.areas)) rest area changing.there member))
     (olds_of part) (part_there start store changes part first left tree changing plan is)
   where
     rest : List Record
@@ -323,7 +323,7 @@ part_in_tree start store changes part first left tree changing plan is =
 
 -- a part of a plan is carried out
 pub part_step : (start store after : AreaStore) (changes part : List Change) (first left : ℕ) (tree : ℕ) → IsChanging start store (drop left changes) tree
-    → IsPlanOf (areas_of start.areas) changes → All IsSane changes → part ++ drop left changes ≡ drop first changes → CarriesAll store after part tree
+    → IsPlanOf (areas_of start.areas) changes → All IsSaneChange changes → part ++ drop left changes ≡ drop first changes → CarriesAll store after part tree
     → IsChanging start after (drop first changes) tree
 part_step start store after changes [] first left tree changing plan sane is same =
     subst (λ list. IsChanging start after list tree) is (subst (λ (b : AreaStore). IsChanging start b (drop left changes) tree) (sym same) changing)
@@ -338,4 +338,4 @@ part_step start store after changes (change ∷ part) first left tree changing p
         (change_step start between after (drop (suc first) changes) tree change changed
         (subst (λ one. All (Contains (without (olds_of (drop (suc first) changes)) (areas_of start.areas))) (olds_of (one ∷ []))) parts.here
         (left_there start between changes first (suc first) change tree changed plan parts.within (add-one first)))
-        (subst IsSane parts.here (sane first change parts.within)) carried)
+        (subst IsSaneChange parts.here (sane first change parts.within)) carried)

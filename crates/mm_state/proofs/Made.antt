@@ -13,11 +13,11 @@ use Rattle.area_rules.proofs.Journals.{legal-push}
 use Rattle.lock_core.specs.declared.stage.SlotState.{SlotState}
 use Rattle.lock_core.specs.Facts.{list_after}
 use Rattle.split_merge.specs.declared.planned.Planned.{Planned}
-use Rattle.split_merge.specs.Plans.{PlanView, IsKept, applied}
+use Rattle.split_merge.specs.Plans.{PlanView, IsPlannedFor, applied}
 use Rattle.split_merge.proofs.Counting.{contains_cases}
 use Rattle.sys_seal.specs.Guards.{IsPlannedWhole}
 use Rattle.sys_calls.proofs.Keeping.{made_space}
-use Rattle.vma_lock.specs.Seats.{config_of, table_of, sight, slots}
+use Rattle.vma_lock.specs.Seats.{table_config, vma_table_id, lock_sight, slots}
 use Rattle.area_tree.specs.AreaTrees.{areas_of}
 use Rattle.mm_state.specs.declared.state.MmState.TheInside.{Inside}
 use Rattle.mm_state.specs.Internal.AreaStores.{IsAtRest, ChangesAtMost, IsEntered, IsCarriedOut}
@@ -77,7 +77,7 @@ stays_made old entry answer plan entries new asked pushed stays =
 pub record IsMade (old new : Inside) (entry : Entry) (answer : Planned) (plan : PlanView) : Type 0 where
   pub asked : IsAsked old entry answer plan
   pub rest : IsAtRest new.store
-  pub turn : (sight new.store.writer).turn ≡ None
+  pub turn : (lock_sight new.store.writer).turn ≡ None
   pub table : new.store.table ≡ old.store.table
   pub done : IsCarriedOut old.store new.store plan.changes entry
   pub counters : new.counters ≡ answer.counters
@@ -97,17 +97,17 @@ module _ (old new : Inside) (entry : Entry) (answer : Planned) (plan : PlanView)
       (made.done.areas ∙ made.asked.planned.planned.makes.result) (made.counters ∙ made.asked.planned.counters)
       ∙ space_after old.config old.journal.items (areas_of old.store.areas) old.counters entry made.asked.state.space ∙ ap (after old.config) (sym made.pushed)
 
-  kept_then : IsKept new.store.areas.bounds new.store.areas.tree.areas (areas_of new.store.areas)
-  kept_then = subst (λ (b : Bounds). IsKept b new.store.areas.tree.areas (areas_of new.store.areas)) (sym made.done.bounds)
-      (subst (λ (n : ℕ). IsKept old.store.areas.bounds n (areas_of new.store.areas)) (sym made.done.most)
-      (subst (λ (areas : List Record). IsKept old.store.areas.bounds old.store.areas.tree.areas areas) (sym made.done.areas) made.asked.planned.planned.kept))
+  kept_then : IsPlannedFor new.store.areas.bounds new.store.areas.tree.areas (areas_of new.store.areas)
+  kept_then = subst (λ (b : Bounds). IsPlannedFor b new.store.areas.tree.areas (areas_of new.store.areas)) (sym made.done.bounds)
+      (subst (λ (n : ℕ). IsPlannedFor old.store.areas.bounds n (areas_of new.store.areas)) (sym made.done.most)
+      (subst (λ (areas : List Record). IsPlannedFor old.store.areas.bounds old.store.areas.tree.areas areas) (sym made.done.areas) made.asked.planned.planned.kept))
 
   -- the state is kept
   pub state_made : IsState (record old { store = new.store; counters = new.counters; plan = new.plan; journal = new.journal })
   state_made = record {
     rest = made.rest;
     turn = made.turn;
-    settings = ap config_of made.table ∙ made.asked.state.settings;
+    settings = ap table_config made.table ∙ made.asked.state.settings;
     valid = made.asked.state.valid;
     journal = made.done.entered ∙ ap (λ (j : List Entry). j ++ entry ∷ []) made.asked.state.journal ∙ sym made.pushed;
     legal = legal_then;
@@ -130,7 +130,7 @@ module _ (old new : Inside) (entry : Entry) (answer : Planned) (plan : PlanView)
       entry.caller entry.call entry.reply
   call_entered one = record {
     entry = made.pushed;
-    same = (ap table_of made.table, refl, refl);
+    same = (ap vma_table_id made.table, refl, refl);
     nodes = made.done.nodes;
     reply = made.asked.reply ∙ made.asked.planned.planned.reply ∙ ap (λ (space : AddressSpace). (step old.config space entry.call).reply) made.asked.state.space;
     touch = λ page access is. one_slot (length plan.changes) (slots old.store.writer) (slots new.store.writer) (one page access is) made.done.few;

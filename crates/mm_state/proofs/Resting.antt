@@ -9,7 +9,7 @@ use Rattle.split_merge.specs.Plans.{applied}
 use Rattle.vma_lock.specs.declared.view.View.{View}
 use Rattle.vma_lock.specs.declared.view.LockWriterState.{LockWriterState}
 use Rattle.vma_lock.specs.declared.seats.WriterSeat.{WriterSeat}
-use Rattle.vma_lock.specs.Seats.{config_of, Writes, sight, slots}
+use Rattle.vma_lock.specs.Seats.{table_config, WritesVmaTable, lock_sight, slots}
 use Rattle.area_tree.specs.AreaTrees.{shown_of, areas_of}
 use Rattle.mm_state.specs.declared.store.AreaStore.{AreaStore}
 use Rattle.mm_state.specs.Shelves.{Hangs}
@@ -22,7 +22,7 @@ pub record IsLike (old new : View) : Type 0 where
   pub seen : new.seen ≡ old.seen
   pub writer_state : new.writer_state ≡ old.writer_state
 
-pub at_rest_like : (store : AreaStore) (writer : WriterSeat) → IsLike (sight store.writer) (sight writer) → Writes writer store.table → IsAtRest store
+pub at_rest_like : (store : AreaStore) (writer : WriterSeat) → IsLike (lock_sight store.writer) (lock_sight writer) → WritesVmaTable writer store.table → IsAtRest store
     → IsAtRest (record store { writer = writer })
 at_rest_like store writer like mine rest = record {
   table = mine;
@@ -43,12 +43,12 @@ at_rest_like store writer like mine rest = record {
   };
 }
 
-pub entered_like : (store : AreaStore) (writer : WriterSeat) (changes : List Change) (entry : Entry) → IsLike (sight store.writer) (sight writer)
+pub entered_like : (store : AreaStore) (writer : WriterSeat) (changes : List Change) (entry : Entry) → IsLike (lock_sight store.writer) (lock_sight writer)
     → IsEntered store changes entry → IsEntered (record store { writer = writer }) changes entry
 entered_like store writer changes entry like entered = record {
-  reply = subst (λ (seen : List Entry). entry.reply ≡ (step (config_of store.table) (after (config_of store.table) seen) entry.call).reply) (sym like.seen) entered.reply;
+  reply = subst (λ (seen : List Entry). entry.reply ≡ (step (table_config store.table) (after (table_config store.table) seen) entry.call).reply) (sym like.seen) entered.reply;
   plan = entered.plan;
-  result = subst (λ (seen : List Entry). applied changes (areas_of store.areas) ≡ list_after (config_of store.table) (seen ++ entry ∷ [])) (sym like.seen) entered.result;
+  result = subst (λ (seen : List Entry). applied changes (areas_of store.areas) ≡ list_after (table_config store.table) (seen ++ entry ∷ [])) (sym like.seen) entered.result;
   real = entered.real;
   sane = entered.sane;
   packable = entered.packable;
@@ -56,8 +56,8 @@ entered_like store writer changes entry like entered = record {
   rise_after = entered.rise_after;
 }
 
-pub carried_like : (store made : AreaStore) (lent met : WriterSeat) (changes : List Change) (entry : Entry) → IsLike (sight store.writer) (sight lent)
-    → IsLike (sight made.writer) (sight met) → IsCarriedOut (record store { writer = lent }) made changes entry
+pub carried_like : (store made : AreaStore) (lent met : WriterSeat) (changes : List Change) (entry : Entry) → IsLike (lock_sight store.writer) (lock_sight lent)
+    → IsLike (lock_sight made.writer) (lock_sight met) → IsCarriedOut (record store { writer = lent }) made changes entry
     → IsCarriedOut store (record made { writer = met }) changes entry
 carried_like store made lent met changes entry first second done = record {
   entered = second.seen ∙ done.entered ∙ ap (λ seen. seen ++ entry ∷ []) first.seen;

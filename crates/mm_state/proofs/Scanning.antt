@@ -7,17 +7,17 @@ use Rattle.split_merge.proofs.Lists.{filter_all}
 use Rattle.node_slots.specs.Seats.{AreOut, HasOpen}
 use Rattle.area_tree.proofs.Scanning.{out_or_open}
 use Rattle.area_slots.specs.declared.leaving.Leaving.{Leaving}
-use Rattle.area_slots.specs.Slots.{SlotSet, left_by, gone_by, gone_after, slots_of}
+use Rattle.area_slots.specs.Slots.{SlotSet, retired_by, gone_by, gone_after, slots_left}
 use Rattle.area_tree.specs.AreaTrees.{AreaTreeView}
-use Rattle.mm_state.specs.Internal.AreaStores.{CanFree, IsScanned}
+use Rattle.mm_state.specs.Internal.AreaStores.{CanFree, IsAreaTreeScanned}
 
 -- a scan is one of scans
 pub scanned : (old new : AreaTreeView) (scans : ℕ)
-    → new ≡ record old { tree = record old.tree { elapsed = new.tree.elapsed; scans = scans; pins = new.tree.pins; free = new.tree.free } } → IsScanned old new
+    → new ≡ record old { tree = record old.tree { elapsed = new.tree.elapsed; scans = scans; pins = new.tree.pins; free = new.tree.free } } → IsAreaTreeScanned old new
 scanned old new scans same = same
     ∙ ap (λ n. record old { tree = record old.tree { elapsed = new.tree.elapsed; scans = n; pins = new.tree.pins; free = new.tree.free } }) (sym (ap (λ (t : AreaTreeView). t.tree.scans) same))
 
-pub scanned_more : (first second third : AreaTreeView) → IsScanned first second → IsScanned second third → IsScanned first third
+pub scanned_more : (first second third : AreaTreeView) → IsAreaTreeScanned first second → IsAreaTreeScanned second third → IsAreaTreeScanned first third
 scanned_more first second third one two = two
     ∙ ap (λ (t : AreaTreeView). record t { tree = record t.tree { elapsed = third.tree.elapsed; scans = third.tree.scans; pins = third.tree.pins; free = third.tree.free } }) one
 
@@ -33,7 +33,7 @@ pub readied : (old prepared new : AreaTreeView) (changed : Bool)
         free = prepared.tree.free;
       };
     }
-    → IsScanned prepared new
+    → IsAreaTreeScanned prepared new
     → new ≡ record old {
       tree = record old.tree {
         changed = new.tree.changed;
@@ -97,7 +97,7 @@ gone_more elapsed later upto (l ∷ left) = one_more elapsed later upto l left (
 
 -- each of those that left by a tree is gone by it
 all_gone : (tree : ℕ) (left : List Leaving) → All (λ leaving. leaving.tree ≤ tree) left → gone_by tree left ≡ left
-all_gone tree left all = filter_all (left_by tree) left (recursion_from_All (λ leaving. left_by tree leaving ≡ true) left (λ k d within. by (get_or left k d).tree (all k d within)))
+all_gone tree left all = filter_all (retired_by tree) left (recursion_from_All (λ leaving. retired_by tree leaving ≡ true) left (λ k d within. by (get_or left k d).tree (all k d within)))
   where
     by : (n : ℕ) → n ≤ tree → nat_le n tree ≡ true
     by n upto = grind (arith, nat_tests)
@@ -105,7 +105,7 @@ all_gone tree left all = filter_all (left_by tree) left (recursion_from_All (λ 
 -- where fewer are free than wanted after a scan, it found a reader inside
 pub some_inside : (areas new : AreaTreeView) (set after : SlotSet) (wanted : ℕ) → CanFree areas set wanted → new.tree.number ≡ areas.tree.number
     → (AreOut new.tree.pins → new.tree.elapsed ≡ new.tree.number)
-    → after ≡ record set { free = set.free ++ slots_of (gone_by new.tree.elapsed set.left); left = gone_after new.tree.elapsed set.left }
+    → after ≡ record set { free = set.free ++ slots_left (gone_by new.tree.elapsed set.left); left = gone_after new.tree.elapsed set.left }
     → length after.free < wanted → HasOpen new.tree.pins
 some_inside areas new set after wanted can same gone seen few = by (out_or_open new.tree.pins)
   where
@@ -116,7 +116,7 @@ some_inside areas new set after wanted can same gone seen few = by (out_or_open 
       few,
       can.enough,
       ap (λ (s : SlotSet). length s.free) seen,
-      length-append set.free (slots_of (gone_by new.tree.elapsed set.left)),
+      length-append set.free (slots_left (gone_by new.tree.elapsed set.left)),
       length-map (gone_by new.tree.elapsed set.left) (λ (l : Leaving). l.slot),
       ap (λ n. length (gone_by n set.left)) (gone out ∙ same),
       ap length (all_gone areas.tree.number set.left can.left),

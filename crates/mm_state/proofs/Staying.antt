@@ -15,7 +15,7 @@ use Rattle.lock_core.specs.Core.{slot_at}
 use Rattle.split_merge.specs.declared.plan.Change.{Change}
 use Rattle.split_merge.specs.Plans.{olds_of, news_of, starts_alike, without, with_all, applied, IsPlanOf, IsReal}
 use Rattle.split_merge.proofs.Counting.{contains_cases}
-use Rattle.split_merge.specs.Internal.Sorted.{begins_below, BeginsAscend}
+use Rattle.split_merge.specs.Sorted.{begins_below, BeginsAscend}
 use Rattle.split_merge.proofs.Going.{insert_is, contains_without}
 use Rattle.area_slots.specs.Slots.{SlotSet, one_at}
 use Rattle.vma_lock.specs.Seats.{slots}
@@ -24,7 +24,7 @@ use Rattle.area_tree.specs.AreaTrees.{shown_of, areas_of, areas_shown, times_sho
 use Rattle.mm_state.specs.declared.store.AreaStore.{AreaStore}
 use Rattle.mm_state.specs.Shelves.{ShowsIt, Hangs}
 use Rattle.mm_state.specs.States.{KeepsSlots}
-use Rattle.mm_state.specs.Internal.AreaStores.{IsPackable, IsShown, IsStill, IsChanging}
+use Rattle.mm_state.specs.Internal.AreaStores.{IsPackable, IsAreaShown, IsStill, IsChanging}
 use Rattle.mm_state.proofs.Rows.{packed_same, not_packed}
 
 -- in a list that ascends by a number, an element is told by its number
@@ -128,7 +128,7 @@ module _ (start store : AreaStore) (changes : List Change) (tree : ℕ) (set : S
   slot_stays : (slot : ℕ) (area : Record) → Contains (without (olds_of changes) (areas_of start.areas)) area → Contains (areas_of start.areas) area
       → (slot_at (slots start.writer) slot).row ≡ packed area → slot_at (slots store.writer) slot ≡ slot_at (slots start.writer) slot
   slot_stays slot area left member is =
-      let (place, now) = All-contains (IsShown (shown_of store.areas)) (without (olds_of changes) (areas_of start.areas)) area changing.there left in
+      let (place, now) = All-contains (IsAreaShown (shown_of store.areas)) (without (olds_of changes) (areas_of start.areas)) area changing.there left in
       let still = All-contains (IsStill (slots start.writer) (slots store.writer) (shown_of store.areas)) (without (olds_of changes) (areas_of start.areas)) area changing.still left
       place now in
       let row = All-contains (ShowsIt (slots store.writer)) (shown_of store.areas ++ store.moved.items) (record { slot = place; area = area }) changing.hangs.rows

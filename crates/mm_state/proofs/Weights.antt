@@ -12,7 +12,7 @@ use Rattle.split_merge.specs.Plans.{olds_of, news_of, starts_alike, without, wit
 use Rattle.split_merge.proofs.Ascending.{Below, Pairs-filter}
 use Rattle.split_merge.proofs.Counting.{contains_cases, contains_filter, unlike, Pairs-from_AllPairs}
 use Rattle.split_merge.proofs.Replacing.{without_first, apart}
-use Rattle.split_merge.specs.Internal.Sorted.{BeginsAscend}
+use Rattle.split_merge.specs.Sorted.{BeginsAscend}
 use Rattle.split_merge.proofs.Going.{ascending_pairs}
 
 -- the areas that stay where one goes out

@@ -41,13 +41,13 @@ abbrev pub list_of : StateView → List Record
 list_of state = list_after state.config state.journal
 
 -- the row of the slot of a pair
-abbrev pub row_of : List SlotState → Pair → List ℕ
-row_of slots pair = (slot_at slots pair.slot).row
+abbrev pub pair_row : List SlotState → Pair → List ℕ
+pair_row slots pair = (slot_at slots pair.slot).row
 
 -- The pairs are those of the areas in order: each has the pages of its area, and a slot whose row has the words of the area.
 pub record ArePairsOf (slots : List SlotState) (areas : List Record) (pairs : List Pair) : Type 0 where
   pub spans : map span_of pairs ≡ map (λ area. area.span) areas
-  pub rows : map (row_of slots) pairs ≡ map packed areas
+  pub rows : map (pair_row slots) pairs ≡ map packed areas
 
 -- a slot whose row shows an area of both lists is as it was: no mark of it rose, and its row is the same
 abbrev pub KeepsSlots : (before after : List Record) → (old new : List SlotState) → Type 0

@@ -1,6 +1,6 @@
 //! Changes that take away areas which adjoin each other.
 ghost use Rattle.std.specs.Prelude.{ℕ, ◌≤◌, ◌-◌, length, take, drop};
-ghost use Rattle.mm_state.specs.Internal.Runs.{IsRun};
+ghost use Rattle.mm_state.specs.Internal.Runs.{IsRunOfRemovals};
 
 use mm_types::Span;
 use split_merge::Change;
@@ -16,8 +16,8 @@ pub(crate) struct Run {
 pub(crate) fn run_before(changes: &[Change], end: usize) -> Run
     requires { end ≤ length changes.now }
     ensures first { result.first ≤ end }
-    ensures run { IsRun result.span.lo result.span.hi (take (end - result.first) (drop result.first changes.now)) }
-    ensures longest { (first lo hi : ℕ) → IsRun lo hi (take (end - first) (drop first changes.now)) → result.first ≤ first }
+    ensures run { IsRunOfRemovals result.span.lo result.span.hi (take (end - result.first) (drop result.first changes.now)) }
+    ensures longest { (first lo hi : ℕ) → IsRunOfRemovals lo hi (take (end - first) (drop first changes.now)) → result.first ≤ first }
 {
     let mut first = end;
     let mut lo = 0;

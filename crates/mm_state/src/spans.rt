@@ -1,10 +1,10 @@
 //! Slots that are free again, and areas that moved, as a call needs them.
 ghost use Rattle.std.specs.Prelude.{ℕ, ◌*◌, ◌≡◌, ◌↔◌, ◌≤◌, ◌<◌, ◌+◌, ◌++◌, ◌∷◌, [], true, false, List, Some, length, vec_capacity, option_to_list, IfSome, IsPermutation, IsTrue};
 ghost use Rattle.node_slots.specs.Seats.{HasOpen};
-ghost use Rattle.area_slots.specs.Slots.{slots_of, gone_by, gone_after};
+ghost use Rattle.area_slots.specs.Slots.{slots_left, gone_by, gone_after};
 ghost use Rattle.area_tree.specs.declared.shown.ShownArea.{ShownArea};
 ghost use Rattle.area_tree.specs.AreaTrees.{shown_of, areas_of, IsEndOf, IsRoomFor};
-ghost use Rattle.mm_state.specs.Internal.AreaStores.{adds_of, CanFree, IsFreed, IsScanned, CanStore, IsSameTree};
+ghost use Rattle.mm_state.specs.Internal.AreaStores.{adds_of, CanFree, IsFreed, IsAreaTreeScanned, CanStore, HasSameAreaTree};
 
 use area_slots::AreaSlots;
 use area_tree::{AreaTree, ShownArea};
@@ -29,7 +29,7 @@ pub(crate) fn count_adds(changes: &[Change]) -> usize
 /// Frees the slots that left with trees up to the elapsed tree: no reader finds them in a tree any more.
 fn free_elapsed(areas: &AreaTree, slots: &mut AreaSlots)
     ensures { slots.new ≡ record slots.old {
-      free = slots.old.free ++ slots_of (gone_by areas.now.tree.elapsed slots.old.left);
+      free = slots.old.free ++ slots_left (gone_by areas.now.tree.elapsed slots.old.left);
       left = gone_after areas.now.tree.elapsed slots.old.left;
     } }
 {
@@ -41,7 +41,7 @@ fn free_elapsed(areas: &AreaTree, slots: &mut AreaSlots)
 fn scan_for(areas: &mut AreaTree, slots: &mut AreaSlots, wanted: usize) -> bool
     requires can { CanFree areas.old slots.old wanted }
     requires few { length slots.old.free < wanted }
-    ensures areas { IsScanned areas.old areas.new }
+    ensures areas { IsAreaTreeScanned areas.old areas.new }
     ensures scans { areas.new.tree.scans ≡ areas.old.tree.scans + length areas.old.tree.pins }
     ensures readers { length areas.new.tree.pins ≡ length areas.old.tree.pins }
     ensures elapsed { areas.old.tree.elapsed ≤ areas.new.tree.elapsed }
@@ -67,7 +67,7 @@ pub(crate) fn wait_for_slots<R: Wait>(
     wanted: usize,
 )
     requires { CanFree areas.old slots.old wanted }
-    ensures areas { IsScanned areas.old areas.new }
+    ensures areas { IsAreaTreeScanned areas.old areas.new }
     ensures still { wanted ≤ length slots.old.free + length (gone_by areas.old.tree.elapsed slots.old.left) → areas.new ≡ areas.old }
     ensures scans { (rounds : ℕ) × (areas.new.tree.scans ≡ areas.old.tree.scans + rounds * length areas.old.tree.pins) }
     ensures readers { length areas.new.tree.pins ≡ length areas.old.tree.pins }
@@ -93,7 +93,7 @@ pub(crate) fn store_moved(areas: &mut AreaTree, moved: &mut Vec<ShownArea>)
     ensures shown { IsPermutation (shown_of areas.old ++ moved.old.items) (shown_of areas.new) }
     ensures none { moved.new.items ≡ [] }
     ensures room { vec_capacity moved.new ≡ vec_capacity moved.old }
-    ensures same { IsSameTree areas.old areas.new }
+    ensures same { HasSameAreaTree areas.old areas.new }
 {
     while let Some(shown) = moved.pop() {
         areas.insert(shown);

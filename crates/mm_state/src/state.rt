@@ -10,9 +10,9 @@ ghost use Rattle.area_rules.specs.Verdicts.{verdict};
 ghost use Rattle.lock_core.specs.declared.stage.Stage.TheVariants.{Out};
 ghost use Rattle.lock_core.specs.Core.{free_slot, StartsWith};
 ghost use Rattle.lock_core.specs.Rows.{Exactly};
-ghost use Rattle.vma_lock.specs.Views.{slot_count, opened_view, look_at};
+ghost use Rattle.vma_lock.specs.Views.{slot_count, opened_lock_view, look_at};
 ghost use Rattle.area_tree.specs.SpanTrees.{IsFreshWriter};
-ghost use Rattle.vma_lock.specs.Seats.{view, seen, stage, sight, HasTurn};
+ghost use Rattle.vma_lock.specs.Seats.{lock_view, seen, stage, lock_sight, HasTurn};
 
 use crate::store::AreaStore;
 use mm_types::{Access, AreaList, Call, Config, Counters, Entry, NoMemory, Page, Reply, Verdict};
@@ -64,7 +64,7 @@ impl MmState {
     ) -> Result<MmState, NoMemory>
         requires config { IsValidConfig config }
         requires entries { entries ≤ 2 ^ 31 }
-        requires fresh { (readers : ℕ) × (sight writer ≡ opened_view config readers) }
+        requires fresh { (readers : ℕ) × (lock_sight writer ≡ opened_lock_view config readers) }
         requires nodes { IsFreshWriter config.areas nodes }
         ensures { IfOk result (λ state. state ≡ record {
           table = writer.seat.table_id;
@@ -104,12 +104,12 @@ impl MmState {
         requires turn { HasTurn seat.old }
         requires free { stage seat.old ≡ Out }
         ensures table { seat.new.seat.table_id ≡ self.old.table }
-        ensures enters { Enters self.old self.new (view seat.old).caller call.now result }
+        ensures enters { Enters self.old self.new (lock_view seat.old).caller call.now result }
         // the seat has then seen the whole journal, by one look more, and has its turn again
-        ensures view { (found : ℕ) × (found / 2 ≡ length self.new.journal + 1) × (view seat.new ≡ look_at (view seat.old) found self.new.journal Out) }
+        ensures view { (found : ℕ) × (found / 2 ≡ length self.new.journal + 1) × (lock_view seat.new ≡ look_at (lock_view seat.old) found self.new.journal Out) }
         // what it had seen lies before this entry, and no entry between is of its caller
         ensures later { StartsWith self.old.journal (seen seat.old) }
-        ensures own { calls_by (view seat.old).caller self.old.journal ≡ calls_by (view seat.old).caller (seen seat.old) }
+        ensures own { calls_by (lock_view seat.old).caller self.old.journal ≡ calls_by (lock_view seat.old).caller (seen seat.old) }
     {
         let called = plan_call(
             &self.config,
@@ -161,9 +161,9 @@ impl MmState {
         requires free { stage seat.old ≡ Out }
         ensures table { seat.new.seat.table_id ≡ self.old.table }
         ensures same { self.new ≡ self.old }
-        ensures view { (found : ℕ) × (found / 2 ≡ length self.old.journal + 1) × (view seat.new ≡ look_at (view seat.old) found self.old.journal Out) }
+        ensures view { (found : ℕ) × (found / 2 ≡ length self.old.journal + 1) × (lock_view seat.new ≡ look_at (lock_view seat.old) found self.old.journal Out) }
         ensures later { StartsWith self.old.journal (seen seat.old) }
-        ensures own { HasTurn seat.old → calls_by (view seat.old).caller self.old.journal ≡ calls_by (view seat.old).caller (seen seat.old) }
+        ensures own { HasTurn seat.old → calls_by (lock_view seat.old).caller self.old.journal ≡ calls_by (lock_view seat.old).caller (seen seat.old) }
     {
         self.store.meet(seat);
     }

@@ -9,13 +9,13 @@ ghost use Rattle.lock_core.specs.declared.stage.Stage.TheVariants.{Out};
 ghost use Rattle.lock_core.specs.Core.{slot_at, StartsWith};
 ghost use Rattle.split_merge.specs.Plans.{olds_of, news_of, IsPlanOf};
 ghost use Rattle.split_merge.specs.declared.plan.Change.TheVariants.{Detach, Alter, Add};
-ghost use Rattle.vma_lock.specs.Seats.{config_of, slots_of, IsOf, Writes, view, seen, stage, HasTurn, sight, journal, slots, IsOpen, IsClosed, MayEnter};
-ghost use Rattle.vma_lock.specs.Views.{opened_view, look_at};
-ghost use Rattle.area_slots.specs.Slots.{IsTaken};
+ghost use Rattle.vma_lock.specs.Seats.{table_config, slots_of, IsOfVmaTable, WritesVmaTable, lock_view, seen, stage, HasTurn, lock_sight, journal, slots, HasOpenCall, HasNoOpenCall, MayEnter};
+ghost use Rattle.vma_lock.specs.Views.{opened_lock_view, look_at};
+ghost use Rattle.area_slots.specs.Slots.{IsSlotTaken};
 ghost use Rattle.area_tree.specs.AreaTrees.{areas_of};
-ghost use Rattle.mm_state.specs.Internal.AreaStores.{IsWritten, CanChange, Carries, IsSane, IsChanging, IsAtRest, IsReadied, IsEntered, IsCarriedOut, adds, adds_of, CanFree};
-ghost use Rattle.mm_state.specs.Internal.Runs.{IsRun, IsLetGo, CarriesAll};
-ghost use Rattle.mm_state.specs.Internal.Waits.{HasReader};
+ghost use Rattle.mm_state.specs.Internal.AreaStores.{IsWritten, CanChange, Carries, IsSaneChange, IsChanging, IsAtRest, IsReadied, IsEntered, IsCarriedOut, adds, adds_of, CanFree};
+ghost use Rattle.mm_state.specs.Internal.Runs.{IsRunOfRemovals, IsLetGo, CarriesAll};
+ghost use Rattle.mm_state.specs.Internal.Waits.{FoundReaders};
 ghost use Rattle.area_tree.specs.SpanTrees.{IsFreshWriter};
 
 use crate::runs::run_before;
@@ -52,20 +52,20 @@ struct Opened<'a> {
 
 impl OpenCall for Opened<'_> {
     ghost use Rattle.std.specs.Prelude.{length};
-    ghost use Rattle.vma_lock.specs.Seats.{IsOpen, journal};
+    ghost use Rattle.vma_lock.specs.Seats.{HasOpenCall, journal};
 
-    ghost is_open = { λ call. IsOpen call.writer.now };
+    ghost is_open = { λ call. HasOpenCall call.writer.now };
 
     ghost calls = { λ call. length (journal call.writer.now) };
 }
 
 /// Marks a slot, once no reader holds it, and writes its row.
 fn write_slot<R: Wait>(rt: &R, table: &VmaTable, writer: &mut WriterSeat, slot: Slot, row: [u64; 4])
-    requires table { Writes writer.old table.now }
-    requires open_call { IsOpen writer.old }
+    requires table { WritesVmaTable writer.old table.now }
+    requires open_call { HasOpenCall writer.old }
     requires slot { slot.0 < slots_of table.now }
-    ensures table { Writes writer.new table.now }
-    ensures written { IsWritten (sight writer.old) slot.0 row (sight writer.new) }
+    ensures table { WritesVmaTable writer.new table.now }
+    ensures written { IsWritten (lock_sight writer.old) slot.0 row (lock_sight writer.new) }
 {
     mark(rt, table, writer, slot);
     table.write_row(writer, slot, row);
@@ -73,11 +73,11 @@ fn write_slot<R: Wait>(rt: &R, table: &VmaTable, writer: &mut WriterSeat, slot: 
 
 /// Marks a slot once no reader holds it.
 fn mark<R: Wait>(rt: &R, table: &VmaTable, writer: &mut WriterSeat, slot: Slot)
-    requires table { Writes writer.old table.now }
-    requires open_call { IsOpen writer.old }
+    requires table { WritesVmaTable writer.old table.now }
+    requires open_call { HasOpenCall writer.old }
     requires slot { slot.0 < slots_of table.now }
-    ensures table { Writes writer.new table.now }
-    ensures marked { IsWritten (sight writer.old) slot.0 (slot_at (slots writer.old) slot.0).row (sight writer.new) }
+    ensures table { WritesVmaTable writer.new table.now }
+    ensures marked { IsWritten (lock_sight writer.old) slot.0 (slot_at (slots writer.old) slot.0).row (lock_sight writer.new) }
 {
     for _ in rt.forever() {
         if mark_once(table, writer, slot) {
@@ -89,12 +89,12 @@ fn mark<R: Wait>(rt: &R, table: &VmaTable, writer: &mut WriterSeat, slot: Slot)
 
 /// Tries once to mark a slot, and answers whether it did. Where it did not, a reader holds the slot, and it lets other threads run.
 fn mark_once(table: &VmaTable, writer: &mut WriterSeat, slot: Slot) -> bool
-    requires table { Writes writer.old table.now }
-    requires open_call { IsOpen writer.old }
+    requires table { WritesVmaTable writer.old table.now }
+    requires open_call { HasOpenCall writer.old }
     requires slot { slot.0 < slots_of table.now }
-    ensures table { Writes writer.new table.now }
-    ensures marked { result ≡ true → IsWritten (sight writer.old) slot.0 (slot_at (slots writer.old) slot.0).row (sight writer.new) }
-    ensures reader { result ≡ false → HasReader (sight writer.old) slot.0 (sight writer.new) }
+    ensures table { WritesVmaTable writer.new table.now }
+    ensures marked { result ≡ true → IsWritten (lock_sight writer.old) slot.0 (slot_at (slots writer.old) slot.0).row (lock_sight writer.new) }
+    ensures reader { result ≡ false → FoundReaders (lock_sight writer.old) slot.0 (lock_sight writer.new) }
 {
     if table.try_mark(writer, slot).is_ok() {
         return true;
@@ -113,12 +113,12 @@ impl AreaStore {
         nodes: NodeWriter,
     ) -> Result<AreaStore, NoMemory>
         requires config { IsValidConfig config.now }
-        requires fresh { (readers : ℕ) × (sight writer ≡ opened_view config.now readers) }
+        requires fresh { (readers : ℕ) × (lock_sight writer ≡ opened_lock_view config.now readers) }
         requires nodes { IsFreshWriter config.now.areas nodes }
         ensures rest { IfOk result IsAtRest }
         ensures none { IfOk result (λ store. areas_of store.areas ≡ []) }
         ensures bounds { IfOk result (λ store. (store.areas.bounds ≡ bounds_of config.now) × (store.areas.tree.areas ≡ config.now.areas)) }
-        ensures writer { IfOk result (λ store. (store.writer ≡ writer) × (config_of store.table ≡ (sight writer).config)) }
+        ensures writer { IfOk result (λ store. (store.writer ≡ writer) × (table_config store.table ≡ (lock_sight writer).config)) }
         ensures tree { IfOk result (λ store. (store.areas.tree.table ≡ nodes.writer_state.seat.table_id) × (store.areas.tree.number ≡ 0) × (store.areas.tree.shown ≡ [])
             × (store.areas.tree.elapsed ≡ 0) × (store.slots.left ≡ [])) }
     {
@@ -135,19 +135,19 @@ impl AreaStore {
     /// A reader meets the writer, who has no turn.
     pub(crate) fn meet(&mut self, seat: &mut ReaderSeat)
         requires rest { IsAtRest self.old }
-        requires table { IsOf seat.old self.old.table }
-        requires turn { (sight self.old.writer).turn ≡ None }
+        requires table { IsOfVmaTable seat.old self.old.table }
+        requires turn { (lock_sight self.old.writer).turn ≡ None }
         requires free { stage seat.old ≡ Out }
         ensures rest { IsAtRest self.new }
-        ensures table { (self.new.table ≡ self.old.table) × IsOf seat.new self.new.table }
-        ensures turn { (sight self.new.writer).turn ≡ None }
-        ensures seq { (sight self.new.writer).writer_state.seq ≡ (sight self.old.writer).writer_state.seq }
+        ensures table { (self.new.table ≡ self.old.table) × IsOfVmaTable seat.new self.new.table }
+        ensures turn { (lock_sight self.new.writer).turn ≡ None }
+        ensures seq { (lock_sight self.new.writer).writer_state.seq ≡ (lock_sight self.old.writer).writer_state.seq }
         ensures same { (slots self.new.writer ≡ slots self.old.writer) × (journal self.new.writer ≡ journal self.old.writer) × (self.new.areas ≡ self.old.areas)
             × (self.new.slots ≡ self.old.slots) }
         ensures view { (found : ℕ) × (found / 2 ≡ length (journal self.old.writer) + 1)
-            × (view seat.new ≡ look_at (view seat.old) found (journal self.old.writer) Out) }
+            × (lock_view seat.new ≡ look_at (lock_view seat.old) found (journal self.old.writer) Out) }
         ensures later { StartsWith (journal self.old.writer) (seen seat.old) }
-        ensures own { HasTurn seat.old → calls_by (view seat.old).caller (journal self.old.writer) ≡ calls_by (view seat.old).caller (seen seat.old) }
+        ensures own { HasTurn seat.old → calls_by (lock_view seat.old).caller (journal self.old.writer) ≡ calls_by (lock_view seat.old).caller (seen seat.old) }
     {
         self.table.meet(&mut self.writer, seat);
     }
@@ -161,19 +161,19 @@ impl AreaStore {
         entry: Entry,
     )
         requires rest { IsAtRest self.old }
-        requires table { IsOf seat.old self.old.table }
-        requires turn { HasTurn seat.old × (entry.caller ≡ (view seat.old).caller) × ((sight self.old.writer).turn ≡ None) }
+        requires table { IsOfVmaTable seat.old self.old.table }
+        requires turn { HasTurn seat.old × (entry.caller ≡ (lock_view seat.old).caller) × ((lock_sight self.old.writer).turn ≡ None) }
         requires free { stage seat.old ≡ Out }
         requires room { length (journal self.old.writer) < 2 ^ 31 }
         requires plan { IsEntered self.old changes.now entry }
         ensures rest { IsAtRest self.new }
-        ensures table { (self.new.table ≡ self.old.table) × IsOf seat.new self.new.table }
-        ensures turn { (sight self.new.writer).turn ≡ None }
+        ensures table { (self.new.table ≡ self.old.table) × IsOfVmaTable seat.new self.new.table }
+        ensures turn { (lock_sight self.new.writer).turn ≡ None }
         ensures done { IsCarriedOut self.old self.new changes.now entry }
         ensures view { (found : ℕ) × (found / 2 ≡ length (journal self.new.writer) + 1)
-            × (view seat.new ≡ look_at (view seat.old) found (journal self.new.writer) Out) }
+            × (lock_view seat.new ≡ look_at (lock_view seat.old) found (journal self.new.writer) Out) }
         ensures later { StartsWith (journal self.old.writer) (seen seat.old) }
-        ensures own { calls_by (view seat.old).caller (journal self.old.writer) ≡ calls_by (view seat.old).caller (seen seat.old) }
+        ensures own { calls_by (lock_view seat.old).caller (journal self.old.writer) ≡ calls_by (lock_view seat.old).caller (seen seat.old) }
     {
         self.table.lend(&mut self.writer, seat);
         self.carry_out(rt, changes, entry);
@@ -184,12 +184,12 @@ impl AreaStore {
     /// after it, and enters it in the journal.
     pub(crate) fn carry_out<R: Wait>(&mut self, rt: &R, changes: &[Change], entry: Entry)
         requires rest { IsAtRest self.old }
-        requires turn { MayEnter entry (sight self.old.writer).turn }
+        requires turn { MayEnter entry (lock_sight self.old.writer).turn }
         requires room { length (journal self.old.writer) < 2 ^ 31 }
         requires plan { IsEntered self.old changes.now entry }
         ensures rest { IsAtRest self.new }
         ensures table { self.new.table ≡ self.old.table }
-        ensures turn { (sight self.new.writer).turn ≡ (sight self.old.writer).turn }
+        ensures turn { (lock_sight self.new.writer).turn ≡ (lock_sight self.old.writer).turn }
         ensures done { IsCarriedOut self.old self.new changes.now entry }
     {
         self.areas.facts();
@@ -206,7 +206,7 @@ impl AreaStore {
     /// Prepares the tree, and waits until as many slots are free as the changes need: before a call, and never within one, whose
     /// readers would wait too.
     fn make_ready<R: Wait>(&mut self, rt: &R, changes: &[Change])
-        requires closed { IsClosed self.old.writer }
+        requires closed { HasNoOpenCall self.old.writer }
         requires still { self.old.areas.tree.changed ≡ false }
         requires enough { CanFree self.old.areas self.old.slots (adds_of changes.now) }
         ensures ready { IsReadied self.old self.new changes.now }
@@ -220,7 +220,7 @@ impl AreaStore {
     /// Publishes the tree in an open call. Readers may only meet a new tree while the sequence is odd: at an even sequence the
     /// present tree is that of the journal.
     fn publish_areas(&mut self)
-        requires open_call { IsOpen self.old.writer }
+        requires open_call { HasOpenCall self.old.writer }
         requires calls { length (journal self.old.writer) ≡ self.old.areas.tree.number }
         requires roomy { self.old.areas.tree.roomy ≡ true }
         requires number { self.old.areas.tree.number < 2 ^ 40 - 1 }
@@ -246,7 +246,7 @@ impl AreaStore {
     fn change_all<R: Wait>(&mut self, rt: &R, changes: &[Change], tree: u64)
         requires can { CanChange self.old }
         requires plan { IsPlanOf (areas_of self.old.areas) changes.now }
-        requires sane { All IsSane changes.now }
+        requires sane { All IsSaneChange changes.now }
         requires moved { self.old.moved.items ≡ [] }
         requires leaving { All (λ leaving. leaving.tree ≤ tree) self.old.slots.left }
         requires free { adds_of changes.now ≤ length self.old.slots.free }
@@ -299,7 +299,7 @@ impl AreaStore {
     fn detach_all<R: Wait>(&mut self, rt: &R, changes: &[Change], span: Span, tree: u64)
         requires can { CanChange self.old }
         requires olds { All (Contains (areas_of self.old.areas)) (olds_of changes.now) }
-        requires run { IsRun span.lo span.hi changes.now }
+        requires run { IsRunOfRemovals span.lo span.hi changes.now }
         requires some { 0 < length changes.now }
         ensures { CarriesAll self.old self.new changes.now tree }
     {
@@ -318,10 +318,10 @@ impl AreaStore {
 
     /// A slot is detached, and leaves with a tree.
     fn let_go<R: Wait>(&mut self, rt: &R, slot: Slot, tree: u64)
-        requires table { Writes self.old.writer self.old.table }
-        requires open_call { IsOpen self.old.writer }
+        requires table { WritesVmaTable self.old.writer self.old.table }
+        requires open_call { HasOpenCall self.old.writer }
         requires slot { slot.0 < slots_of self.old.table }
-        requires taken { IsTaken self.old.slots slot.0 }
+        requires taken { IsSlotTaken self.old.slots slot.0 }
         ensures { IsLetGo self.old self.new slot.0 tree }
     {
         write_slot(rt, &self.table, &mut self.writer, slot, DETACHED);

@@ -4,7 +4,7 @@ use Rattle.std.proofs.lemmas.Bool.Decides.{nat_tests}
 use Rattle.mm_types.specs.declared.area.Attr.{Attr}
 use Rattle.mm_types.specs.declared.area.Record.{Record}
 use Rattle.mm_types.specs.Records.{IsValid}
-use Rattle.mm_types.specs.Packed.{bit, prot_bits, attr_bits, packed, prot_at, attr_of, is_attached, is_valid, fields_of, unpacked}
+use Rattle.mm_types.specs.Packed.{bit, prot_bits, attr_bits, packed, prot_at, attr_of, is_attached, is_valid, unpacked_record, unpacked}
 
 -- a bit is 0 or 1
 bit_small : (flag : Bool) → bit flag ≤ 1
@@ -98,8 +98,8 @@ unfolding is_attached
 attached lo bits below = grind (arith, nat_tests)
 
 -- what a row's fields are, where they are those of an area
-fields_of-packed : (area : Record) → fields_of (65536 * area.span.lo + 32768 + attr_bits area.attr) area.span.hi area.object area.offset ≡ area
-unfolding fields_of
+fields_of-packed : (area : Record) → unpacked_record (65536 * area.span.lo + 32768 + attr_bits area.attr) area.span.hi area.object area.offset ≡ area
+unfolding unpacked_record
 fields_of-packed area = let word = 65536 * area.span.lo + 32768 + attr_bits area.attr in
     let attr = attr_of-attr_bits area.span.lo word area.attr refl in
     let below = attr_bits_below area.attr in
@@ -129,13 +129,13 @@ all_three false b c all = absurd (cc)
 
 -- the words of the record that four words spell, where the first is that of an area
 packed-fields_of : (first hi object offset : ℕ) → is_attached first ≡ true
-    → packed (fields_of first hi object offset) ≡ first ∷ hi ∷ object ∷ offset ∷ []
-unfolding packed fields_of
+    → packed (unpacked_record first hi object offset) ≡ first ∷ hi ∷ object ∷ offset ∷ []
+unfolding packed unpacked_record
 packed-fields_of first hi object offset attached = ap (λ n. n ∷ hi ∷ object ∷ offset ∷ []) (first_back first attached)
 
 -- the object of that record
-object-fields_of : (first hi object offset : ℕ) → (fields_of first hi object offset).object ≡ object
-unfolding fields_of
+object-fields_of : (first hi object offset : ℕ) → (unpacked_record first hi object offset).object ≡ object
+unfolding unpacked_record
 object-fields_of first hi object offset = refl
 
 -- what four words are unpacked as
@@ -143,7 +143,7 @@ four_unpacked : (first hi object offset : ℕ) (area : Record) → unpacked (fir
     → (packed area ≡ first ∷ hi ∷ object ∷ offset ∷ []) × IsValid area × (area.object < 2 ^ 32)
 unfolding unpacked
 four_unpacked first hi object offset area is =
-    let read = fields_of first hi object offset in
+    let read = unpacked_record first hi object offset in
     let given = if_some (is_attached first && (nat_lt object (2 ^ 32) && is_valid read)) read area is in
     let tests = all_three (is_attached first) (nat_lt object (2 ^ 32)) (is_valid read) given.0 in
     let small : object < 2 ^ 32 = grind (arith, nat_tests, tests.1) in

@@ -12,12 +12,12 @@ unfoldable pub hex : ℕ → ℕ → List ℕ
 hex width n = let text = digits 16 false n in replicate (width - length text) (byte "0") ++ text
 
 -- where a page begins, in bytes
-unfoldable pub start_text : ℕ → List ℕ
-start_text page = hex 8 (PAGE_SIZE * page)
+unfoldable pub page_text : ℕ → List ℕ
+page_text page = hex 8 (PAGE_SIZE * page)
 
 -- the addresses of a span, as `<lo>-<hi>`
 unfoldable pub span_text : Span → List ℕ
-span_text span = start_text span.lo ++ codes "-" ++ start_text span.hi
+span_text span = page_text span.lo ++ codes "-" ++ page_text span.hi
 
 -- the letter of an access that is allowed, and else a dash
 abbrev pub letter : Bool → ℕ → ℕ
@@ -51,7 +51,7 @@ backing files area = if nat_eq area.object 0 then record { major = 0; minor = 0;
 
 -- where in what it maps an area begins, and which that is, as `<offset> <major>:<minor> <inode>`
 unfoldable pub place_text : ℕ → Backing → List ℕ
-place_text offset backing = start_text offset ++ codes " " ++ hex 2 backing.major ++ codes ":" ++ hex 2 backing.minor ++ codes " "
+place_text offset backing = page_text offset ++ codes " " ++ hex 2 backing.major ++ codes ":" ++ hex 2 backing.minor ++ codes " "
     ++ decimal backing.inode
 
 -- what stands before the name: `<lo>-<hi> <perms> <offset> <major>:<minor> <inode> `

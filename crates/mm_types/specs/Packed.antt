@@ -58,8 +58,8 @@ is_valid area = nat_lt area.span.lo area.span.hi && (nat_le area.span.hi MOST_AR
     else nat_le (area.offset + (area.span.hi - area.span.lo)) MOST_OBJECT_PAGES)))
 
 -- the record whose fields stand in four words
-unfoldable pub fields_of : ℕ → ℕ → ℕ → ℕ → Record
-fields_of first hi object offset = record {
+unfoldable pub unpacked_record : ℕ → ℕ → ℕ → ℕ → Record
+unpacked_record first hi object offset = record {
   span = record { lo = first / 2 ^ 16; hi = hi };
   attr = attr_of first;
   object = object;
@@ -69,6 +69,6 @@ fields_of first hi object offset = record {
 -- The valid area that has these words. There is none where the first is not that of an area, where the object's number has
 -- more than 32 bits, and where the record is not valid.
 unfoldable pub unpacked : List ℕ → Option Record
-unpacked (first ∷ hi ∷ object ∷ offset ∷ []) = let area = fields_of first hi object offset in
+unpacked (first ∷ hi ∷ object ∷ offset ∷ []) = let area = unpacked_record first hi object offset in
     if is_attached first && (nat_lt object (2 ^ 32) && is_valid area) then Some area else None
 unpacked _ = None

@@ -3,7 +3,7 @@ use Rattle.std.proofs.Common.{ℕ, zero, suc, ◌≡◌, ◌<◌, ◌≤◌, ◌
 use Rattle.std.proofs.lemmas.List.{get_or-set_same, set-get_or, set-set}
 use Rattle.grace_core.specs.Core.{row_at}
 use Rattle.node_slots.specs.declared.view.NodeView.{NodeView}
-use Rattle.node_slots.specs.Views.{store_at, fill_at, scan_at, scan_from}
+use Rattle.node_slots.specs.Views.{node_store_at, fill_at, scan_at, scan_from}
 use Rattle.node_slots.specs.Internal.Stores.{store_four_at}
 
 -- the first words of one row, and then those of another
@@ -53,7 +53,7 @@ fill_same view row = ap (with_words view) (set-get_or view.known.writer_state.wo
 
 -- a word stored into a row that was filled
 pub store_filled : (view : NodeView) (row place word : ℕ) (words : List ℕ) → row < length view.known.writer_state.words
-    → store_at (fill_at view row words) row place word ≡ fill_at view row (set words place word)
+    → node_store_at (fill_at view row words) row place word ≡ fill_at view row (set words place word)
 unfolding with_words
 store_filled view row place word words within =
     ap (λ (l : List ℕ). with_words view (set (set view.known.writer_state.words row words) row (set l place word)))
@@ -63,7 +63,7 @@ store_filled view row place word words within =
 -- one word more of a row that was filled up to a place, and four
 one_filled : (view : NodeView) (row place next : ℕ) (words old : List ℕ) → row < length view.known.writer_state.words → place + 1 ≡ next
     → place < length words → place < length old
-    → store_at (fill_at view row (blend place words old)) row place (get_or words place 0) ≡ fill_at view row (blend next words old)
+    → node_store_at (fill_at view row (blend place words old)) row place (get_or words place 0) ≡ fill_at view row (blend next words old)
 one_filled view row place next words old there one new_there old_there =
     store_filled view row place (get_or words place 0) (blend place words old) there
     ∙ ap (fill_at view row) (blend_next place words old new_there old_there ∙ ap (λ (n : ℕ). blend n words old) one)
@@ -75,11 +75,11 @@ four_filled view row place words old there new_there old_there =
     let a : ℕ = get_or words (place + 1) 0 in
     let b : ℕ = get_or words (place + 2) 0 in
     let c : ℕ = get_or words (place + 3) 0 in
-    ap (λ (v : NodeView). store_at (store_at (store_at v row (place + 1) a) row (place + 2) b) row (place + 3) c)
+    ap (λ (v : NodeView). node_store_at (node_store_at (node_store_at v row (place + 1) a) row (place + 2) b) row (place + 3) c)
     (one_filled view row place (place + 1) words old there refl (omega arith) (omega arith))
-    ∙ ap (λ (v : NodeView). store_at (store_at v row (place + 2) b) row (place + 3) c)
+    ∙ ap (λ (v : NodeView). node_store_at (node_store_at v row (place + 2) b) row (place + 3) c)
     (one_filled view row (place + 1) (place + 2) words old there (omega arith) (omega arith) (omega arith))
-    ∙ ap (λ (v : NodeView). store_at v row (place + 3) c)
+    ∙ ap (λ (v : NodeView). node_store_at v row (place + 3) c)
     (one_filled view row (place + 2) (place + 3) words old there (omega arith) (omega arith) (omega arith))
     ∙ one_filled view row (place + 3) (place + 4) words old there (omega arith) (omega arith) (omega arith)
 

@@ -5,7 +5,7 @@ use Rattle.std.proofs.lemmas.Bool.Decides.{eqb_tells}
 use Rattle.std.proofs.lemmas.List.{length-set, get_or-set_same, get_or-set_other, get_or-map, get_or_past}
 use Rattle.grace_core.specs.declared.clearing.Clearing.{Clearing}
 use Rattle.grace_core.specs.Core.{clearing_at, no_clearing}
-use Rattle.grace_core.specs.Steps.{least, looked}
+use Rattle.grace_core.specs.Steps.{cleared_up_to, cleared_by_scan}
 use Rattle.grace_core.proofs.Clearings.{least_greatest}
 use Rattle.node_slots.specs.declared.view.NodeView.{NodeView}
 use Rattle.node_slots.specs.Views.{scan_at, scan_from}
@@ -16,7 +16,7 @@ IsCleared : NodeView → ℕ → Type 0
 IsCleared view reader = (clearing_at view.known.writer_state.clearings reader).pin % 2 ≡ 0
     → (clearing_at view.known.writer_state.clearings reader).cleared ≡ view.known.writer_state.tree.number
 
-looked_cleared : (number found : ℕ) (clearing : Clearing) → (looked number found clearing).pin % 2 ≡ 0 → (looked number found clearing).cleared ≡ number
+looked_cleared : (number found : ℕ) (clearing : Clearing) → (cleared_by_scan number found clearing).pin % 2 ≡ 0 → (cleared_by_scan number found clearing).cleared ≡ number
 looked_cleared number found clearing even =
     cond-true (nat_eq (found % 2) 0) number (cond (nat_eq found clearing.pin) clearing.cleared clearing.tree) (eq-eqb (found % 2) 0 even)
 
@@ -28,7 +28,7 @@ scan_cleared reader other [] view within before below = before (omega (arith, be
 scan_cleared reader other (found ∷ pins) view within before below =
     let clearings : List Clearing = view.known.writer_state.clearings in
     let number : ℕ = view.known.writer_state.tree.number in
-    let one : Clearing = looked number found (clearing_at clearings reader) in
+    let one : Clearing = cleared_by_scan number found (clearing_at clearings reader) in
     scan_cleared (reader + 1) other pins (scan_at view reader found) (omega (arith, within, length-set clearings reader one))
     (λ low. elim (eqb_tells other reader) [
       | inl same ↦
@@ -45,7 +45,7 @@ scan_cleared reader other (found ∷ pins) view within before below =
 -- where every reader is found closed, each is cleared up to the present tree
 pub scanned_least : (pins : List ℕ) (old new : NodeView) → new ≡ scan_from 0 pins old → length pins ≡ length old.known.writer_state.clearings
     → length new.known.writer_state.clearings ≡ length pins → AreOut (map (λ (c : Clearing). c.pin) new.known.writer_state.clearings)
-    → new.known.writer_state.tree.number ≤ least new.known.writer_state.tree.number new.known.writer_state.clearings
+    → new.known.writer_state.tree.number ≤ cleared_up_to new.known.writer_state.tree.number new.known.writer_state.clearings
 unfolding IsCleared
 scanned_least pins old new is sized after out =
     let clearings : List Clearing = new.known.writer_state.clearings in

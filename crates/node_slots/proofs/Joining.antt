@@ -6,24 +6,24 @@ use Rattle.node_slots.specs.declared.view.Size.{Size}
 use Rattle.node_slots.specs.declared.view.NodeSeatKind.TheVariants.{Reads, Writes}
 use Rattle.node_slots.specs.declared.view.Known.{Known}
 use Rattle.node_slots.specs.declared.view.NodeView.{NodeView}
-use Rattle.node_slots.specs.Views.{view_at, spent_view, new_reader, after_reader, joined_at}
-use Rattle.node_slots.specs.Rule.{FitsReader, Fits, AreApart, Shows}
+use Rattle.node_slots.specs.Views.{node_view_at, spent_node_view, new_node_reader, after_node_reader, node_joined_at}
+use Rattle.node_slots.specs.Rule.{FitsReader, NodeSeatFits, AreApart, ShowsGrace}
 use Rattle.node_slots.proofs.Elements.{found_there, each_else, each_more}
 use Rattle.node_slots.proofs.Standing.{seat_found, apart_same}
 use Rattle.node_slots.proofs.Walking.{reader_fits}
 
 -- a seat that was joined away is nobody's
-apart_spent : (views : List NodeView) (other : ℕ) → other < length views → AreApart views → AreApart (set views other spent_view)
+apart_spent : (views : List NodeView) (other : ℕ) → other < length views → AreApart views → AreApart (set views other spent_node_view)
 apart_spent views other within apart =
-    let same : (k : ℕ) → (view_at (set views other spent_view) k).kind ≡ Reads → view_at (set views other spent_view) k ≡ view_at views k =
-    each_else (λ k (v : NodeView). v.kind ≡ Reads → v ≡ view_at views k) views other spent_view spent_view within
+    let same : (k : ℕ) → (node_view_at (set views other spent_node_view) k).kind ≡ Reads → node_view_at (set views other spent_node_view) k ≡ node_view_at views k =
+    each_else (λ k (v : NodeView). v.kind ≡ Reads → v ≡ node_view_at views k) views other spent_node_view spent_node_view within
     (λ k _ reads. refl) (λ reads. absurd (cc)) in
     λ i j first second both.
     apart i j (sym (ap (λ (v : NodeView). v.kind) (same i first)) ∙ first) (sym (ap (λ (v : NodeView). v.kind) (same j second)) ∙ second)
     (sym (ap (λ (v : NodeView). v.reader) (same i first)) ∙ both ∙ ap (λ (v : NodeView). v.reader) (same j second))
 
 -- a spent seat fits any table
-spent_fits : (size : Size) (words : List ℕ) (known : Known) (seat : ℕ) → Fits size words known seat spent_view
+spent_fits : (size : Size) (words : List ℕ) (known : Known) (seat : ℕ) → NodeSeatFits size words known seat spent_node_view
 spent_fits size words known seat = record {
   reader = λ reads. absurd (cc);
   writer = λ writes. absurd (cc);
@@ -31,22 +31,22 @@ spent_fits size words known seat = record {
 
 -- join
 pub reader_joins : (size : Size) (seat other : ℕ) (view taken : NodeView) → view.kind ≡ Reads
-    → Joins (Shows size) seat view other taken (joined_at view) spent_view
+    → Joins (ShowsGrace size) seat view other taken (node_joined_at view) spent_node_view
 reader_joins size seat other view taken reads state shows found apart other_there =
     let known : Known = shows.known in
     let at = seat_found size state known shows.shows seat view found in
-    let both : NodeView = joined_at view in
+    let both : NodeView = node_joined_at view in
     let middle : List NodeView = set state.views seat both in
     let count = length-set state.views seat both in
-    let there = found_there middle other taken spent_view other_there in
+    let there = found_there middle other taken spent_node_view other_there in
     let fits = at.fits.reader reads in
     record {
       known = known;
       shows = record {
         stands = shows.shows.stands;
         words = shows.shows.words;
-        seats = each_else (Fits size state.words known) middle other spent_view spent_view there.1
-            (λ k _. each_else (Fits size state.words known) state.views seat both spent_view at.within (λ j _. shows.shows.seats j)
+        seats = each_else (NodeSeatFits size state.words known) middle other spent_node_view spent_node_view there.1
+            (λ k _. each_else (NodeSeatFits size state.words known) state.views seat both spent_node_view at.within (λ j _. shows.shows.seats j)
             (reader_fits size state.words known seat both reads
             (record { size_is = fits.size_is; made = fits.made; pin = fits.pin; keeps = fits.keeps })) k)
             (spent_fits size state.words known other);
@@ -55,13 +55,13 @@ reader_joins size seat other view taken reads state shows found apart other_ther
     }
 
 -- each reader has one seat after a new one was made
-apart_more : (views : List NodeView) (right : NodeView) (made : ℕ) → ((k : ℕ) → (view_at views k).kind ≡ Reads → (view_at views k).reader < made)
+apart_more : (views : List NodeView) (right : NodeView) (made : ℕ) → ((k : ℕ) → (node_view_at views k).kind ≡ Reads → (node_view_at views k).reader < made)
     → right.reader ≡ made → AreApart views → AreApart (views ++ right ∷ [])
 apart_more views right made early new apart =
     let n : ℕ = length views in
     let Old : ℕ → NodeView → Type 0 = λ k (v : NodeView). v.kind ≡ Reads
-    → ((k ≡ n) × (v.reader ≡ made)) ⊎ (((view_at views k).kind ≡ Reads) × ((view_at views k).reader ≡ v.reader)) in
-    let which : (k : ℕ) → Old k (view_at (views ++ right ∷ []) k) = each_more Old views right spent_view (λ k reads. inr (reads, refl))
+    → ((k ≡ n) × (v.reader ≡ made)) ⊎ (((node_view_at views k).kind ≡ Reads) × ((node_view_at views k).reader ≡ v.reader)) in
+    let which : (k : ℕ) → Old k (node_view_at (views ++ right ∷ []) k) = each_more Old views right spent_node_view (λ k reads. inr (reads, refl))
     (λ reads. inl (refl, new)) in
     λ i j first second both. elim (which i first) [
       | inl here ↦ elim (which j second) [
@@ -76,7 +76,7 @@ apart_more views right made early new apart =
 
 -- the writer makes a reader
 pub reader_splits : (size : Size) (seat : ℕ) (view : NodeView) → view.kind ≡ Writes → view.known.made < size.readers
-    → Splits (Shows size) seat view (after_reader view) (new_reader view)
+    → Splits (ShowsGrace size) seat view (after_node_reader view) (new_node_reader view)
 reader_splits size seat view writes few state shows found =
     let known : Known = shows.known in
     let stands = shows.shows.stands in
@@ -85,15 +85,15 @@ reader_splits size seat view writes few state shows found =
     let is = at.fits.writer writes in
     let same : view.known.made ≡ known.made = ap (λ (k : Known). k.made) is.knows in
     let next : Known = record known { made = known.made + 1 } in
-    let left : NodeView = after_reader view in
-    let right : NodeView = new_reader view in
+    let left : NodeView = after_node_reader view in
+    let right : NodeView = new_node_reader view in
     let views : List NodeView = set state.views seat left in
     let older : (v : NodeView) → FitsReader size state.words known v → FitsReader size state.words next v =
     λ v fits. record { size_is = fits.size_is; made = omega (arith, fits.made); pin = fits.pin; keeps = fits.keeps } in
-    let each : (k : ℕ) → Fits size state.words next k (view_at views k) =
-    each_else (Fits size state.words next) state.views seat left spent_view at.within
+    let each : (k : ℕ) → NodeSeatFits size state.words next k (node_view_at views k) =
+    each_else (NodeSeatFits size state.words next) state.views seat left spent_node_view at.within
     (λ k far. record {
-      reader = λ reads. older (view_at state.views k) ((shows.shows.seats k).reader reads);
+      reader = λ reads. older (node_view_at state.views k) ((shows.shows.seats k).reader reads);
       writer = λ also. absurd (far (((shows.shows.seats k).writer also).first ∙ sym is.first));
     })
     (record {
@@ -118,7 +118,7 @@ reader_splits size seat view writes few state shows found =
           new_pins = λ reader new inside. has.new_pins reader (omega (arith, new)) inside;
           rows = has.rows;
         };
-        seats = each_more (Fits size state.words next) views right spent_view each
+        seats = each_more (NodeSeatFits size state.words next) views right spent_node_view each
             (record {
               reader = λ _. record {
                 size_is = is.size_is;
@@ -129,7 +129,7 @@ reader_splits size seat view writes few state shows found =
               writer = λ also. absurd (cc);
             });
         apart = apart_more views right known.made
-            (λ k reads. let fits = each_else (λ j (v : NodeView). v.kind ≡ Reads → v.reader < known.made) state.views seat left spent_view at.within
+            (λ k reads. let fits = each_else (λ j (v : NodeView). v.kind ≡ Reads → v.reader < known.made) state.views seat left spent_node_view at.within
             (λ j _ also. ((shows.shows.seats j).reader also).made) (λ also. let e = sym writes ∙ also in absurd (cc)) k in fits reads)
             same (apart_same state.views seat view left at.is at.within refl refl shows.shows.apart);
       };

@@ -7,14 +7,14 @@ use Rattle.std.proofs.lemmas.List.Sums.{sum_by-append}
 use Rattle.std.proofs.lemmas.List.Sorted.{sum_by-IsPermutation, IsPermutation-map, IsPermutation-trans, IsPermutation-to_front, length_permutation}
 use Rattle.std.specs.List.Sorted.{IsPermutation}
 use Rattle.mm_types.specs.declared.slot.Row.{Row}
-use Rattle.grace_core.specs.Core.{WriterState, times, has_row, since_at, is_free}
+use Rattle.grace_core.specs.Core.{WriterState, times, has_row, since_at, is_free_row}
 use Rattle.grace_core.specs.Steps.{next_tree, published, scanned}
 use Rattle.grace_core.proofs.Moves.{free_parts, free_from, publish_free, scan_free}
 use Rattle.grace_core.proofs.Leaving.{since_left, since_same}
 use Rattle.node_slots.specs.declared.left.Left.{Left}
 use Rattle.node_slots.specs.declared.view.NodeView.{NodeView}
 use Rattle.node_slots.specs.Views.{fill_at, scan_at, scan_from}
-use Rattle.node_slots.specs.Kept.{free_numbers, left_numbers, times_gone, left_at, no_left, first_at, IsLeft, RowsKept}
+use Rattle.node_slots.specs.Kept.{free_numbers, left_numbers, times_gone, left_at, no_left, first_at, IsRowRetired, RowsKept}
 use Rattle.node_slots.proofs.Counting.{times_first, times_last, one_if, none_if}
 
 -- how often a row is free with one more at the end
@@ -110,7 +110,7 @@ free_lists rows row free left firsts writer_state kept within gone late =
         | inr differ ↦ kept.inside other (let none = none_if row.0 other differ.1 in omega (arith, count other, none, some))
       ];
       free_is = λ other some. elim (eqb_tells row.0 other) [
-        | inl same ↦ subst (λ r. is_free writer_state r ≡ true) same.1 (kept.taken row.0 within gone late)
+        | inl same ↦ subst (λ r. is_free_row writer_state r ≡ true) same.1 (kept.taken row.0 within gone late)
         | inr differ ↦ kept.free_is other (let none = none_if row.0 other differ.1 in omega (arith, count other, none, some))
       ];
       present = λ other inside none early. kept.present other inside (omega (arith, count other, none)) early;
@@ -129,7 +129,7 @@ left_lists rows one free left firsts writer_state kept within gone early since =
     let before : (place : ℕ) → place < length left → left_at (left ++ one ∷ []) place ≡ left_at left place =
     λ place there. get_or_append_left left (one ∷ []) no_left place there in
     let last : (place : ℕ) → length left ≡ place → left_at (left ++ one ∷ []) place ≡ one = λ place there. get_or_push left one no_left place there in
-    let is : IsLeft writer_state one = record {
+    let is : IsRowRetired writer_state one = record {
       some = omega (arith, since);
       most = omega (arith, since);
       leaves = λ _. since;
@@ -152,8 +152,8 @@ left_lists rows one free left firsts writer_state kept within gone early since =
       present = λ other inside none low. kept.present other inside (omega (arith, count other, none)) low;
       taken = λ other inside none later. kept.taken other inside (omega (arith, count other, none)) later;
       queue = λ place there. elim (cases_lt place (length left)) [
-        | inl old ↦ subst (IsLeft writer_state) (sym (before place old)) (kept.queue place old)
-        | inr new ↦ subst (IsLeft writer_state) (sym (last place (omega (arith, new, there, long)))) is
+        | inl old ↦ subst (IsRowRetired writer_state) (sym (before place old)) (kept.queue place old)
+        | inr new ↦ subst (IsRowRetired writer_state) (sym (last place (omega (arith, new, there, long)))) is
       ];
       order = λ place other le there. elim (cases_lt other (length left)) [
         | inl old ↦ omega (
@@ -179,19 +179,19 @@ passed_lists rows one free left firsts writer_state kept present past =
     let more = free_last free one.row in
     let less : (other : ℕ) → times other (left_numbers (one ∷ left)) ≡ cond (nat_eq one.row.0 other) 1 0 + times other (left_numbers left) =
     λ other. times_first other one.row.0 (left_numbers left) in
-    let is : IsLeft writer_state one = kept.queue 0 (omega arith) in
+    let is : IsRowRetired writer_state one = kept.queue 0 (omega arith) in
     let out : has_row writer_state.tree one.row.0 ≡ false = elim (cases_Bool (has_row writer_state.tree one.row.0)) [
       | inl here ↦ absurd (omega (arith, is.leaves here, present))
       | inr out ↦ out
     ] in
-    let is_it : is_free writer_state one.row.0 ≡ true = free_from writer_state one.row.0 out (omega (arith, is.waits out, past)) in
+    let is_it : is_free_row writer_state one.row.0 ≡ true = free_from writer_state one.row.0 out (omega (arith, is.waits out, past)) in
     record {
       sized = kept.sized;
       first = kept.first;
       once = λ other. omega (arith, more other, less other, kept.once other);
       inside = λ other some. kept.inside other (omega (arith, more other, less other, some));
       free_is = λ other some. elim (eqb_tells one.row.0 other) [
-        | inl same ↦ subst (λ r. is_free writer_state r ≡ true) same.1 is_it
+        | inl same ↦ subst (λ r. is_free_row writer_state r ≡ true) same.1 is_it
         | inr differ ↦ kept.free_is other (let none = none_if one.row.0 other differ.1 in omega (arith, more other, none, some))
       ];
       present = λ other inside none low. kept.present other inside (omega (arith, more other, less other, none)) low;
@@ -251,7 +251,7 @@ publish_lists rows number new free left firsts writer_state kept next sized gone
       taken = λ row within none late. absurd (omega (arith, late, kept.first row, next));
       queue = λ place within.
           let one : Left = left_at left place in
-          let is : IsLeft writer_state one = kept.queue place within in
+          let is : IsRowRetired writer_state one = kept.queue place within in
           let row : ℕ = one.row.0 in
           let counted : 1 ≤ times row (left_numbers left) = left_counts left place within in
           let some : 1 ≤ times_gone free left row = omega (arith, counted) in
@@ -411,7 +411,7 @@ early_present rows row free left firsts writer_state kept within gone out = elim
 
 -- a row that was taken is free by the grace protocol
 pub taken_free : (rows row : ℕ) (free : List Row) (left : List Left) (firsts : List ℕ) (writer_state : WriterState) → RowsKept rows free left firsts writer_state
-    → row < rows → times_gone free left row ≡ 0 → has_row writer_state.tree row ≡ false → is_free writer_state row ≡ true
+    → row < rows → times_gone free left row ≡ 0 → has_row writer_state.tree row ≡ false → is_free_row writer_state row ≡ true
 taken_free rows row free left firsts writer_state kept within gone out = kept.taken row within gone
     (early_present rows row free left firsts writer_state kept within gone out)
 
@@ -457,7 +457,7 @@ pub waiting_after : (rows passed : ℕ) (free : List Row) (left : List Left) (fi
 waiting_after rows passed free left firsts writer_state kept after row waits =
     let parts = and_parts (nat_lt 0 (times row (left_numbers left))) (not (has_row writer_state.tree row)) waits in
     let place = left_place left row (ltb-true 0 (times row (left_numbers left)) parts.0) in
-    let is : IsLeft writer_state (left_at left place.0) = kept.queue place.0 place.1 in
+    let is : IsRowRetired writer_state (left_at left place.0) = kept.queue place.0 place.1 in
     let out : has_row writer_state.tree (left_at left place.0).row.0 ≡ false = ap (has_row writer_state.tree) place.2 ∙ not-true (has_row writer_state.tree row) parts.1 in
     omega (arith, after (omega (arith, place.1)), kept.order 0 place.0 (omega arith) place.1, is.waits out, ap (since_at writer_state.since) place.2)
 
@@ -467,7 +467,7 @@ pub waiting_past : (rows : ℕ) (free : List Row) (left : List Left) (firsts : L
 waiting_past rows free left firsts writer_state kept row waits =
     let parts = and_parts (nat_lt 0 (times row (left_numbers left))) (not (has_row writer_state.tree row)) waits in
     let place = left_place left row (ltb-true 0 (times row (left_numbers left)) parts.0) in
-    let is : IsLeft writer_state (left_at left place.0) = kept.queue place.0 place.1 in
+    let is : IsRowRetired writer_state (left_at left place.0) = kept.queue place.0 place.1 in
     let out : has_row writer_state.tree (left_at left place.0).row.0 ≡ false = ap (has_row writer_state.tree) place.2 ∙ not-true (has_row writer_state.tree row) parts.1 in
     omega (arith, is.past out, is.waits out, ap (since_at writer_state.since) place.2)
 
@@ -478,7 +478,7 @@ pub elapsed_greatest : (rows tree : ℕ) (free : List Row) (left : List Left) (f
     → tree < (left_at left 0).since
 elapsed_greatest rows tree free left firsts writer_state kept some below each =
     let one : Left = left_at left 0 in
-    let is : IsLeft writer_state one = kept.queue 0 some in
+    let is : IsRowRetired writer_state one = kept.queue 0 some in
     elim (cases_Bool (has_row writer_state.tree one.row.0)) [
       | inl here ↦ omega (arith, is.leaves here, below)
       | inr out ↦

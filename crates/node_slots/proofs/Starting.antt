@@ -5,7 +5,7 @@ use Rattle.std.proofs.lemmas.List.{length-replicate, get_or-replicate, length-se
 use Rattle.mm_types.specs.declared.slot.Row.{Row}
 use Rattle.grace_core.specs.declared.clearing.Clearing.{Clearing}
 use Rattle.grace_core.specs.Core.{times, has_row, since_at, clearing_at, no_clearing}
-use Rattle.grace_core.specs.Steps.{new_clearing, least}
+use Rattle.grace_core.specs.Steps.{new_clearing, cleared_up_to}
 use Rattle.grace_core.specs.Facts.{WriterFacts}
 use Rattle.grace_core.proofs.Moves.{free_fact, free_from}
 use Rattle.maple_node.specs.Roots.{packed_root, unpacked_root}
@@ -19,10 +19,10 @@ use Rattle.node_slots.specs.declared.view.NodeView.{NodeView}
 use Rattle.node_slots.specs.declared.left.Left.{Left}
 use Rattle.node_slots.specs.Trees.{shown_rows, grace_tree, IsShown, first_root, empty_row, first_tree}
 use Rattle.node_slots.specs.Places.{pin_place, word_place, word_count}
-use Rattle.node_slots.specs.Views.{first_writer_state, first_known, opened_view, view_at}
-use Rattle.node_slots.specs.Rule.{Fits, Shows}
+use Rattle.node_slots.specs.Views.{first_writer_state, first_known, opened_node_view, node_view_at}
+use Rattle.node_slots.specs.Rule.{NodeSeatFits, ShowsGrace}
 use Rattle.node_slots.specs.Opening.{IsFreeFrom}
-use Rattle.node_slots.specs.Kept.{IsSize, WriterKept, RowsKept, free_numbers, with_empty}
+use Rattle.node_slots.specs.Kept.{IsSize, NodeWriterKept, RowsKept, free_numbers, with_empty}
 use Rattle.node_slots.proofs.Counting.{times_first, one_if, none_if}
 
 -- tree 0 is first
@@ -76,7 +76,7 @@ since rows row = elim (cases_lt row rows) [
 ]
 
 -- every reader is cleared up to tree 0
-least_first : (readers : ℕ) → least 0 (replicate readers new_clearing) ≡ 0
+least_first : (readers : ℕ) → cleared_up_to 0 (replicate readers new_clearing) ≡ 0
 least_first zero = refl
 least_first (suc readers) = let rest = least_first readers in omega arith
 
@@ -102,7 +102,7 @@ first_writer_facts size is = record {
 
 -- the rule of a new table
 pub opening_shows : (size : Size) (words : List ℕ) → IsSize size → words ≡ set (replicate {A = ℕ} (word_count size) 0) 0 (packed_root first_root)
-    → Shows size (opening words [] (opened_view size 0))
+    → ShowsGrace size (opening words [] (opened_node_view size 0))
 unfolding packed_root unpacked_root
 opening_shows size words is are =
     let zeros : List ℕ = replicate {A = ℕ} (word_count size) 0 in
@@ -137,7 +137,7 @@ opening_shows size words is are =
       };
     }
   where
-    seat_fits : (seat : ℕ) → Fits size words (first_known size 0) seat (view_at (opened_view size 0 ∷ []) seat)
+    seat_fits : (seat : ℕ) → NodeSeatFits size words (first_known size 0) seat (node_view_at (opened_node_view size 0 ∷ []) seat)
     seat_fits zero = record {
       reader = λ reads. absurd (cc);
       writer = λ _. record { size_is = refl; first = refl; knows = refl };
@@ -147,19 +147,19 @@ opening_shows size words is are =
       writer = λ writes. absurd (cc);
     }
 
-    no_reader : (seat : ℕ) → (view_at (opened_view size 0 ∷ []) seat).kind ≡ Reads → ⊥
+    no_reader : (seat : ℕ) → (node_view_at (opened_node_view size 0 ∷ []) seat).kind ≡ Reads → ⊥
     no_reader zero reads = cc
     no_reader (suc seat) reads = cc
 
 -- the seat of a new table's writer
 pub opening_kept : (size : Size) (words : List (List ℕ)) (clearings : List Clearing) (me : Me (Unit {0}) NodeView) → IsSize size
-    → me ≡ (opened_view size 0, []) → words ≡ [] → clearings ≡ replicate size.readers new_clearing
-    → WriterKept size first_root (with_empty size.rows words) clearings me
+    → me ≡ (opened_node_view size 0, []) → words ≡ [] → clearings ≡ replicate size.readers new_clearing
+    → NodeWriterKept size first_root (with_empty size.rows words) clearings me
 opening_kept size words clearings me is same none clearings_are =
     let e : size.rows - 0 ≡ size.rows = omega arith in
     let words_are : with_empty size.rows words ≡ replicate size.rows empty_row =
     ap (with_empty size.rows) none ∙ ap (λ n. replicate n empty_row) e in
-    subst (WriterKept size first_root (with_empty size.rows words) clearings) (sym same) (record {
+    subst (NodeWriterKept size first_root (with_empty size.rows words) clearings) (sym same) (record {
       kind = refl;
       empty = refl;
       size_is = refl;
@@ -174,7 +174,7 @@ opening_kept size words clearings me is same none clearings_are =
           (omega (arith, within, ap (λ (l : List (List ℕ)). length l) words_are, length-replicate size.rows empty_row)));
       readers = ap (λ (l : List Clearing). length l) clearings_are ∙ length-replicate size.readers new_clearing;
       since = length-replicate {A = ℕ} size.rows 0;
-      reached = omega (arith, ap (least 0) clearings_are, least_first size.readers);
+      reached = omega (arith, ap (cleared_up_to 0) clearings_are, least_first size.readers);
     })
 
 -- the lists of a new table's writer
@@ -199,7 +199,7 @@ first_lists size free firsts is from are = record {
 
 pub opening_rows : (size key : Size) (free : List Row) (left : List Left) (firsts : List ℕ) (view : NodeView) → IsSize size
     → IsFreeFrom 1 size.rows (free_numbers free)
-    → firsts ≡ replicate {A = ℕ} size.rows 0 → left ≡ [] → key ≡ size → view ≡ opened_view size 0
+    → firsts ≡ replicate {A = ℕ} size.rows 0 → left ≡ [] → key ≡ size → view ≡ opened_node_view size 0
     → RowsKept key.rows free left firsts view.known.writer_state
 opening_rows size key free left firsts view is from are none same view_is =
     subst (λ (k : Size). RowsKept k.rows free left firsts view.known.writer_state) (sym same)

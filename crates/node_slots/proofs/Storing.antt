@@ -5,7 +5,7 @@ use lib.ListN.{get_elem?}
 use Rattle.std.proofs.lemmas.Bool.{lt-ltb}
 use Rattle.std.proofs.lemmas.Bool.Decides.{eqb_tells}
 use Rattle.std.proofs.lemmas.List.{length-set, set-get_or, get_or-set_same, get_or-set_other}
-use Rattle.grace_core.specs.Core.{times, row_at, is_free}
+use Rattle.grace_core.specs.Core.{times, row_at, is_free_row}
 use Rattle.grace_core.specs.Steps.{filled}
 use Rattle.grace_core.proofs.Moves.{fill_writer_facts, fill_keeps, publish_writer_facts, publish_keeps, scan_writer_facts, scan_keeps, exists_looked}
 use Rattle.maple_node.specs.declared.root.Root.{Root}
@@ -17,9 +17,9 @@ use Rattle.node_slots.specs.declared.view.Known.{Known}
 use Rattle.node_slots.specs.declared.view.NodeView.{NodeView}
 use Rattle.node_slots.specs.Trees.{shown_rows, grace_tree, IsShown}
 use Rattle.node_slots.specs.Places.{root_place, pin_place, word_place}
-use Rattle.node_slots.specs.Views.{view_at, store_at, named_tree, publish_at, scan_at}
-use Rattle.node_slots.specs.Rule.{FitsReader, Stands, HasWords, ShowsKnown, Shows}
-use Rattle.node_slots.specs.Plays.{RowsExist, stored, shown_now, pin_found}
+use Rattle.node_slots.specs.Views.{node_view_at, node_store_at, named_tree, publish_at, scan_at}
+use Rattle.node_slots.specs.Rule.{FitsReader, Stands, HasWords, ShowsKnown, ShowsGrace}
+use Rattle.node_slots.specs.Plays.{RowsExist, fill_tells, shown_now, pin_found}
 use Rattle.node_slots.proofs.Standing.{IsSeat, seat_found, steps}
 
 -- the writer, with the rule as it knows the table
@@ -29,7 +29,7 @@ record IsWriting (size : Size) (state : State (Unit {0}) NodeView) (seat : ℕ) 
   pub first : seat ≡ 0
   pub size_is : view.size ≡ size
 
-writing : (size : Size) (state : State (Unit {0}) NodeView) (shows : Shows size state) (seat : ℕ) (view : NodeView)
+writing : (size : Size) (state : State (Unit {0}) NodeView) (shows : ShowsGrace size state) (seat : ℕ) (view : NodeView)
     → get_elem? state.views seat ≡ some view → view.kind ≡ Writes → IsWriting size state seat view
 writing size state shows seat view found writes =
     let at = seat_found size state shows.known shows.shows seat view found in
@@ -47,11 +47,11 @@ writer_steps : (size : Size) (state : State (Unit {0}) NodeView) (seat word n : 
     → IsWriting size state seat old → old.kind ≡ Writes → new.kind ≡ old.kind → new.reader ≡ old.reader → new.size ≡ old.size
     → Stands size new.known → HasWords size (set state.words word n) new.known
     → ((v : NodeView) → FitsReader size state.words old.known v → FitsReader size (set state.words word n) new.known v)
-    → Shows size (stepped state word n seat carried new keeps)
+    → ShowsGrace size (stepped state word n seat carried new keeps)
 writer_steps size state seat word n carried old new is writes kind reader sized stands words readers =
     steps size state old.known new.known is.shows seat word n carried old new is.at stands words
     (λ other apart. record {
-      reader = λ reads. readers (view_at state.views other) ((is.shows.seats other).reader reads);
+      reader = λ reads. readers (node_view_at state.views other) ((is.shows.seats other).reader reads);
       writer = λ also. absurd (apart (((is.shows.seats other).writer also).first ∙ sym is.first));
     })
     (record {
@@ -97,16 +97,16 @@ words_stored size words known row place word has few rows wide there inside =
 
 -- a word of a free row is stored
 pub store_allows : (size : Size) (slots seat row place word : ℕ) (me : Me (Unit {0}) NodeView) → me.0.kind ≡ Writes → row < size.rows → place < 32
-    → is_free me.0.known.writer_state row ≡ true
-    → Allows (Shows size) slots seat me (word_place size.readers row place) (λ n. word)
-    (λ n. stored (step slots (word_place size.readers row place) word 0 none) me word)
+    → is_free_row me.0.known.writer_state row ≡ true
+    → Allows (ShowsGrace size) slots seat me (word_place size.readers row place) (λ n. word)
+    (λ n. fill_tells (step slots (word_place size.readers row place) word 0 none) me word)
 store_allows size slots seat row place word me writes there inside free state shows homes found fits =
     let is = writing size state shows seat me.0 found writes in
     let known : Known = me.0.known in
     let stands = is.shows.stands in
     let at : ℕ = word_place size.readers row place in
     let changed : List ℕ = set (row_at known.writer_state.words row) place word in
-    let new : NodeView = store_at me.0 row place word in (
+    let new : NodeView = node_store_at me.0 row place word in (
       new,
       keeps,
       tt,
@@ -134,7 +134,7 @@ store_allows size slots seat row place word me writes there inside free state sh
           same ∙ ap (λ (s : Size). word_place s.readers row' place') is.size_is in
           let rows_are : row ≡ row' = omega arith in
           let places_are : place ≡ place' = omega arith in
-          ap (λ k. (store_at me.0 k place word, me.1)) rows_are ∙ ap (λ k. (store_at me.0 row' k word, me.1)) places_are,
+          ap (λ k. (node_store_at me.0 k place word, me.1)) rows_are ∙ ap (λ k. (node_store_at me.0 row' k word, me.1)) places_are,
     )
 
 -- a root word names its root
@@ -158,7 +158,7 @@ pub publish_allows : (size : Size) (slots seat : ℕ) (root : Root) (me : Me (Un
     → FitsRoot root
     → me.0.known.writer_state.tree.number < root.tree → IsShown me.0.size.slots (named_tree me.0.known root)
     → RowsExist me.0.size.rows (named_tree me.0.known root)
-    → Allows (Shows size) slots seat me root_place (λ n. packed_root root)
+    → Allows (ShowsGrace size) slots seat me root_place (λ n. packed_root root)
     (λ n. shown_now (step slots root_place (packed_root root) 0 none) me (packed_root root))
 publish_allows size slots seat root me writes same fits later shown exist state shows homes found bound =
     let is = writing size state shows seat me.0 found writes in
@@ -204,7 +204,7 @@ publish_allows size slots seat root me writes same fits later shown exist state 
 
 -- a pin is loaded
 pub scan_allows : (size : Size) (slots seat reader : ℕ) (me : Me (Unit {0}) NodeView) → me.0.kind ≡ Writes → reader < size.readers
-    → Allows (Shows size) slots seat me (pin_place reader) (λ n. n) (pin_found (step slots (pin_place reader) 0 0 none) me)
+    → Allows (ShowsGrace size) slots seat me (pin_place reader) (λ n. n) (pin_found (step slots (pin_place reader) 0 0 none) me)
 scan_allows size slots seat reader me writes within state shows homes found bound =
     let is = writing size state shows seat me.0 found writes in
     let known : Known = me.0.known in
@@ -241,12 +241,12 @@ scan_allows size slots seat reader me writes within state shows homes found boun
 -- the same, at the size that the table's handle knows
 pub store_owes : (size key : Size) (slots seat row place word : ℕ) (me : Me (Unit {0}) NodeView) → size ≡ key → me.0.kind ≡ Writes → row < size.rows
     → place < 32
-    → is_free me.0.known.writer_state row ≡ true
-    → Allows (Shows key) slots seat me (word_place size.readers row place) (λ n. word)
-    (λ n. stored (step slots (word_place size.readers row place) word 0 none) me word)
+    → is_free_row me.0.known.writer_state row ≡ true
+    → Allows (ShowsGrace key) slots seat me (word_place size.readers row place) (λ n. word)
+    (λ n. fill_tells (step slots (word_place size.readers row place) word 0 none) me word)
 store_owes size key slots seat row place word me same writes there inside free =
-    subst (λ (k : Size). Allows (Shows k) slots seat me (word_place size.readers row place) (λ n. word)
-    (λ n. stored (step slots (word_place size.readers row place) word 0 none) me word)) same
+    subst (λ (k : Size). Allows (ShowsGrace k) slots seat me (word_place size.readers row place) (λ n. word)
+    (λ n. fill_tells (step slots (word_place size.readers row place) word 0 none) me word)) same
     (store_allows size slots seat row place word me writes there inside free)
 
 -- a root word is stored
@@ -254,7 +254,7 @@ pub publish_owes : (size : Size) (slots seat word : ℕ) (root : Root) (me : Me 
     → me.0.size ≡ size → FitsRoot root
     → me.0.known.writer_state.tree.number < root.tree → IsShown me.0.size.slots (named_tree me.0.known root)
     → RowsExist me.0.size.rows (named_tree me.0.known root)
-    → Allows (Shows size) slots seat me root_place (λ n. word) (λ n. shown_now (step slots root_place word 0 none) me word)
+    → Allows (ShowsGrace size) slots seat me root_place (λ n. word) (λ n. shown_now (step slots root_place word 0 none) me word)
 publish_owes size slots seat word root me is writes same fits later shown exist =
-    subst (λ w. Allows (Shows size) slots seat me root_place (λ n. w) (λ n. shown_now (step slots root_place w 0 none) me w)) (sym is)
+    subst (λ w. Allows (ShowsGrace size) slots seat me root_place (λ n. w) (λ n. shown_now (step slots root_place w 0 none) me w)) (sym is)
     (publish_allows size slots seat root me writes same fits later shown exist)

@@ -16,14 +16,14 @@ use Rattle.node_slots.specs.declared.view.Known.{Known}
 use Rattle.node_slots.specs.declared.view.NodeView.{NodeView}
 use Rattle.node_slots.specs.Trees.{grace_tree, IsShown}
 use Rattle.node_slots.specs.Places.{root_place, pin_place, word_place}
-use Rattle.node_slots.specs.Views.{view_at, open_at, root_at, word_at, close_at}
-use Rattle.node_slots.specs.Rule.{FitsReader, Fits, ShowsKnown, Shows}
+use Rattle.node_slots.specs.Views.{node_view_at, open_at, root_at, word_at, close_at}
+use Rattle.node_slots.specs.Rule.{FitsReader, NodeSeatFits, ShowsKnown, ShowsGrace}
 use Rattle.node_slots.specs.Plays.{opened, loaded, word_read, closed}
 use Rattle.node_slots.proofs.Standing.{IsSeat, seat_found, steps, loads_word, words_pin, pin_else}
 
 -- a seat that reads fits where its reader does
 pub reader_fits : (size : Size) (words : List ℕ) (known : Known) (seat : ℕ) (view : NodeView) → view.kind ≡ Reads → FitsReader size words known view
-    → Fits size words known seat view
+    → NodeSeatFits size words known seat view
 reader_fits size words known seat view reads fits = record {
   reader = λ _. fits;
   writer = λ writes. let e = sym reads ∙ writes in absurd (cc);
@@ -32,10 +32,10 @@ reader_fits size words known seat view reads fits = record {
 -- another seat fits after a reader's pin changed
 others_pin : (size : Size) (state : State (Unit {0}) NodeView) (known : Known) (shows : ShowsKnown size state known) (seat n : ℕ) (view : NodeView)
     → IsSeat size state known seat view → view.kind ≡ Reads → (other : ℕ) → other ≢ seat
-    → Fits size (set state.words (pin_place view.reader) n) known other (view_at state.views other)
+    → NodeSeatFits size (set state.words (pin_place view.reader) n) known other (node_view_at state.views other)
 others_pin size state known shows seat n view at reads other differ =
     let fits = shows.seats other in
-    let there : NodeView = view_at state.views other in
+    let there : NodeView = node_view_at state.views other in
     record {
       reader = λ also. pin_else size state.words known there (pin_place view.reader) n
           (λ e. let same : there.reader ≡ view.reader = omega (arith, e) in
@@ -50,7 +50,7 @@ turns : (size : Size) (state : State (Unit {0}) NodeView) (known : Known) (shows
     → get_elem? state.views seat ≡ some me.0 → me.0.kind ≡ Reads
     → new.kind ≡ me.0.kind → new.reader ≡ me.0.reader → new.size ≡ me.0.size → new.pin ≡ turned me.0.pin
     → ((shown : ShownTree) → new.snapshot ≡ Some shown → (me.0.snapshot ≡ Some shown) × (me.0.pin % 2 ≡ 0))
-    → Shows size (stepped state (pin_place me.0.reader) ((get_or state.words (pin_place me.0.reader) 0 + 1) % 2 ^ 64) seat me.1 new keeps)
+    → ShowsGrace size (stepped state (pin_place me.0.reader) ((get_or state.words (pin_place me.0.reader) 0 + 1) % 2 ^ 64) seat me.1 new keeps)
 turns size state known shows seat me new found reads kind reader sized pin empty =
     let at = seat_found size state known shows seat me.0 found in
     let fits = at.fits.reader reads in
@@ -73,9 +73,9 @@ turns size state known shows seat me new found reads kind reader sized pin empty
 
 -- open
 pub open_allows : (size : Size) (slots seat reader : ℕ) (me : Me (Unit {0}) NodeView) → me.0.kind ≡ Reads → me.0.reader ≡ reader → me.0.pin % 2 ≡ 0
-    → Allows (Shows size) slots seat me (pin_place reader) (λ n. (n + 1) % 2 ^ 64) (opened (step slots (pin_place reader) 1 0 none) me)
+    → Allows (ShowsGrace size) slots seat me (pin_place reader) (λ n. (n + 1) % 2 ^ 64) (opened (step slots (pin_place reader) 1 0 none) me)
 open_allows size slots seat reader me reads is even =
-    subst (λ r. Allows (Shows size) slots seat me (pin_place r) (λ n. (n + 1) % 2 ^ 64) (opened (step slots (pin_place r) 1 0 none) me)) is
+    subst (λ r. Allows (ShowsGrace size) slots seat me (pin_place r) (λ n. (n + 1) % 2 ^ 64) (opened (step slots (pin_place r) 1 0 none) me)) is
     (λ state shows homes found fits. (
       open_at me.0,
       keeps,
@@ -86,9 +86,9 @@ open_allows size slots seat reader me reads is even =
 
 -- close
 pub close_allows : (size : Size) (slots seat reader : ℕ) (me : Me (Unit {0}) NodeView) → me.0.kind ≡ Reads → me.0.reader ≡ reader
-    → Allows (Shows size) slots seat me (pin_place reader) (λ n. (n + 1) % 2 ^ 64) (closed (step slots (pin_place reader) 1 0 none) me)
+    → Allows (ShowsGrace size) slots seat me (pin_place reader) (λ n. (n + 1) % 2 ^ 64) (closed (step slots (pin_place reader) 1 0 none) me)
 close_allows size slots seat reader me reads is =
-    subst (λ r. Allows (Shows size) slots seat me (pin_place r) (λ n. (n + 1) % 2 ^ 64) (closed (step slots (pin_place r) 1 0 none) me)) is
+    subst (λ r. Allows (ShowsGrace size) slots seat me (pin_place r) (λ n. (n + 1) % 2 ^ 64) (closed (step slots (pin_place r) 1 0 none) me)) is
     (λ state shows homes found fits. (
       close_at me.0,
       keeps,
@@ -99,7 +99,7 @@ close_allows size slots seat reader me reads is =
 
 -- root
 pub root_allows : (size : Size) (slots seat : ℕ) (me : Me (Unit {0}) NodeView) → me.0.kind ≡ Reads → me.0.pin % 2 ≡ 1
-    → Allows (Shows size) slots seat me root_place (λ n. n) (loaded (step slots root_place 0 0 none) me)
+    → Allows (ShowsGrace size) slots seat me root_place (λ n. n) (loaded (step slots root_place 0 0 none) me)
 root_allows size slots seat me reads odd state shows homes found fits =
     let known : Known = shows.known in
     let stands = shows.shows.stands in
@@ -126,14 +126,14 @@ root_allows size slots seat me reads odd state shows homes found fits =
         sym shows.shows.words.root,
         subst (λ (s : Size). IsShown s.slots shown) (sym reader.size_is) stands.shown,
         (λ row here. subst (λ (s : Size). row < s.rows) (sym reader.size_is)
-            (omega (arith, stands.rows, stands.writer_facts.present.exist row (subst (λ (t : grace.Tree). has_row t row ≡ true) (sym same) here)))),
+            (omega (arith, stands.rows, stands.writer_facts.present.exist row (subst (λ (t : grace.GraceTreeView). has_row t row ≡ true) (sym same) here)))),
         refl,
       ),
     )
 
 -- word
 pub word_allows : (size : Size) (slots seat word : ℕ) (me : Me (Unit {0}) NodeView) → me.0.kind ≡ Reads
-    → Allows (Shows size) slots seat me word (λ n. n) (word_read (step slots word 0 0 none) me)
+    → Allows (ShowsGrace size) slots seat me word (λ n. n) (word_read (step slots word 0 0 none) me)
 word_allows size slots seat word me reads state shows homes found fits =
     let known : Known = shows.known in
     let stands = shows.shows.stands in

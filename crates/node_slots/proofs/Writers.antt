@@ -14,7 +14,7 @@ use Rattle.node_slots.specs.declared.seats.NodeWriter.{NodeWriter}
 use Rattle.node_slots.specs.Trees.{shown_rows}
 use Rattle.node_slots.specs.Plays.{RowsExist}
 use Rattle.node_slots.specs.Kept.{times_gone, free_numbers, firsts_of, first_at, spots_of, PlacesKept}
-use Rattle.node_slots.specs.Seats.{sight, writer_state, is_kept, is_taken, is_present, ReachesNewRows}
+use Rattle.node_slots.specs.Seats.{node_sight, writer_state, is_kept, is_taken_row, is_present, ReachesNewRows}
 use Rattle.node_slots.proofs.Counting.{times_first}
 use Rattle.node_slots.proofs.Notes.{read_first}
 use Rattle.node_slots.proofs.Spots.{places_pushed}
@@ -24,7 +24,7 @@ use Rattle.node_slots.proofs.Listing.{kept_parts, kept_from, taken_parts}
 pub writer_kept : (writer : NodeWriter) (row : ℕ) → is_kept writer row ≡ true
     → (row < writer.writer_state.table.size.rows) × (times_gone writer.free.items writer.left.items row ≡ 0)
 writer_kept writer row is =
-    let parts = kept_parts (sight writer).size.rows row (times_gone writer.free.items writer.left.items row) is in
+    let parts = kept_parts (node_sight writer).size.rows row (times_gone writer.free.items writer.left.items row) is in
     (subst (λ s. row < s.rows) writer.writer_state.kept.size_is parts.0, parts.1)
 
 -- and the first tree that may have it, as it was read
@@ -36,10 +36,10 @@ writer_first writer row found is read =
     read_first writer.notes.items row found (omega (arith, kept.0, writer.rows.sized, long)) read
 
 -- a row that was taken
-pub writer_taken : (writer : NodeWriter) (row : ℕ) → is_taken writer row ≡ true
+pub writer_taken : (writer : NodeWriter) (row : ℕ) → is_taken_row writer row ≡ true
     → (row < writer.writer_state.table.size.rows) × (times_gone writer.free.items writer.left.items row ≡ 0) × (has_row (writer_state writer).tree row ≡ false)
 writer_taken writer row is =
-    let parts = taken_parts (sight writer).size.rows row (times_gone writer.free.items writer.left.items row) (is_present writer row) is in
+    let parts = taken_parts (node_sight writer).size.rows row (times_gone writer.free.items writer.left.items row) (is_present writer row) is in
     (subst (λ s. row < s.rows) writer.writer_state.kept.size_is parts.0, parts.1, parts.2)
 
 -- no row that is free or left is a new one
@@ -55,7 +55,7 @@ pub new_all : (writer : NodeWriter) (shown : ShownTree) → ReachesNewRows write
     → times_gone writer.free.items writer.left.items row ≡ 0 → 1 ≤ times row (shown_rows shown)
 new_all writer shown reaches row within none =
     let kept : is_kept writer row ≡ true =
-    kept_from (sight writer).size.rows row (times_gone writer.free.items writer.left.items row)
+    kept_from (node_sight writer).size.rows row (times_gone writer.free.items writer.left.items row)
     (subst (λ s. row < s.rows) (sym writer.writer_state.kept.size_is) within) none in
     omega (arith, reaches row, cond-true {A = ℕ} (is_kept writer row) 1 0 kept)
 
@@ -67,12 +67,12 @@ new_within writer shown reaches row some = elim (cases_Bool (is_kept writer row)
   | inr out ↦ absurd (omega (arith, some, reaches row, cond-false {A = ℕ} (is_kept writer row) 1 0 out))
 ]
 
-pub new_exist : (writer : NodeWriter) (shown : ShownTree) → ReachesNewRows writer shown → RowsExist (sight writer).size.rows shown
+pub new_exist : (writer : NodeWriter) (shown : ShownTree) → ReachesNewRows writer shown → RowsExist (node_sight writer).size.rows shown
 new_exist writer shown reaches row here =
     subst (λ s. row < s.rows) (sym writer.writer_state.kept.size_is) (new_within writer shown reaches row (ltb-true 0 (times row (shown_rows shown)) here))
 
 -- both ways to count say the same
-pub times_same : (row : ℕ) (rows : List ℕ) → levels.times row rows ≡ times row rows
+pub times_same : (row : ℕ) (rows : List ℕ) → levels.times_among row rows ≡ times row rows
 times_same row [] = refl
 times_same row (other ∷ rows) = ap (λ n. cond (nat_eq other row) 1 0 + n) (times_same row rows) ∙ sym (times_first row other rows)
 
@@ -81,7 +81,7 @@ pub root_within : (writer : NodeWriter) (shown : ShownTree) (slots : ℕ) → Re
     → IsLayout (at_of shown.words) slots (tree_of (at_of shown.words) shown.root) → shown.root.row.0 < 2 ^ 20
 unfolding shown_rows
 root_within writer shown slots reaches layout =
-    let once : levels.times shown.root.row.0 (shown_rows shown) ≡ 1 = root-once (at_of shown.words) slots (tree_of (at_of shown.words) shown.root) layout in
+    let once : levels.times_among shown.root.row.0 (shown_rows shown) ≡ 1 = root-once (at_of shown.words) slots (tree_of (at_of shown.words) shown.root) layout in
     let some : 1 ≤ times shown.root.row.0 (shown_rows shown) = omega (arith, once, times_same shown.root.row.0 (shown_rows shown)) in
     omega (arith, new_within writer shown reaches shown.root.row.0 some, writer.writer_state.table.sized.fits.few_rows)
 

@@ -1,12 +1,12 @@
 -- Trees that the writer builds, as its own view tells them.
 use Rattle.std.specs.Prelude.{ℕ, ◌≡◌, ◌<◌, ◌≤◌, ◌⊎◌, nat_eq, List, replicate}
 use Rattle.grace_core.specs.Core.{row_at}
-use Rattle.maple_node.specs.Levels.{at_of, times}
+use Rattle.maple_node.specs.Levels.{at_of, times_among}
 use Rattle.maple_node.specs.Trees as maple
 use Rattle.maple_node.specs.Trees.{Pair, top_of, tree_rows, pairs_of, IsLayout}
 use Rattle.node_slots.specs.declared.tree.Tree.{Tree}
 use Rattle.node_slots.specs.declared.seats.NodeWriter.{NodeWriter}
-use Rattle.node_slots.specs.Seats.{sight, writer_state, row_count, is_kept, count_of}
+use Rattle.node_slots.specs.Seats.{node_sight, writer_state, row_count, is_kept, one_where}
 
 -- the words of each row of the writer's table
 abbrev pub words_at : NodeWriter → ℕ → List ℕ
@@ -23,9 +23,9 @@ built_rows writer tree = tree_rows (words_at writer) (built writer tree)
 -- The rows show the tree of the writer's view: it meets the layout, ends at the view's limit, and reaches each row that is
 -- neither free nor left once, and no other.
 pub record IsBuilt (writer : NodeWriter) (tree : Tree) : Type 0 where
-  pub layout : IsLayout (words_at writer) (sight writer).size.slots (built writer tree)
+  pub layout : IsLayout (words_at writer) (node_sight writer).size.slots (built writer tree)
   pub limit : (built writer tree).top.end ≡ tree.limit.0
-  pub reached : (row : ℕ) → times row (built_rows writer tree) ≡ count_of (is_kept writer row)
+  pub reached : (row : ℕ) → times_among row (built_rows writer tree) ≡ one_where (is_kept writer row)
 
 -- Nothing was built yet: tree 0 is present, a leaf without entries in row 0, and each other row is free.
 pub record IsBlank (writer : NodeWriter) (tree : Tree) : Type 0 where

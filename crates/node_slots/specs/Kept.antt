@@ -2,8 +2,8 @@
 use Rattle.std.specs.Prelude.{ℕ, ◌≡◌, ◌<◌, ◌≤◌, ◌+◌, ◌-◌, ◌*◌, ◌^◌, min, List, [], ◌++◌, length, map, replicate, slice_index_or, true, false, Some}
 use Rattle.mm_types.specs.declared.slot.Row.{Row}
 use Rattle.grace_core.specs.declared.clearing.Clearing.{Clearing}
-use Rattle.grace_core.specs.Core.{WriterState, times, has_row, row_at, since_at, is_free}
-use Rattle.grace_core.specs.Steps.{least}
+use Rattle.grace_core.specs.Core.{WriterState, times, has_row, row_at, since_at, is_free_row}
+use Rattle.grace_core.specs.Steps.{cleared_up_to}
 use Rattle.maple_node.specs.declared.root.Root.{Root}
 use Rattle.maple_node.specs.Roots.{FitsRoot}
 use Rattle.atomic_table.specs.Table.{Me}
@@ -25,14 +25,14 @@ pub record IsSize (size : Size) : Type 0 where
   pub few_readers : size.readers ≤ 64
 
 -- a table has the size that its rule speaks of, whose slots have numbers of 32 bits, and a word for each place
-pub record IsSized (size key : Size) (words : ℕ) : Type 0 where
+pub record IsNodeTableSized (size key : Size) (words : ℕ) : Type 0 where
   pub size_is : size ≡ key
   pub words_are : words ≡ word_count size
   pub fits : IsSize size
   pub few_slots : size.slots < 2 ^ 32
 
 -- what a reader's seat knows beside its view
-pub record ReaderKept (reader walks words : ℕ) (me : Me (Unit {0}) NodeView) : Type 0 where
+pub record NodeReaderKept (reader walks words : ℕ) (me : Me (Unit {0}) NodeView) : Type 0 where
   pub kind : me.0.kind ≡ Reads
   pub empty : me.1 ≡ []
   pub reader_is : me.0.reader ≡ reader
@@ -45,7 +45,7 @@ abbrev pub with_empty : ℕ → List (List ℕ) → List (List ℕ)
 with_empty rows words = words ++ replicate (rows - length words) empty_row
 
 -- what the writer's seat knows beside its view
-pub record WriterKept (size : Size) (root : Root) (words : List (List ℕ)) (clearings : List Clearing) (me : Me (Unit {0}) NodeView) : Type 0 where
+pub record NodeWriterKept (size : Size) (root : Root) (words : List (List ℕ)) (clearings : List Clearing) (me : Me (Unit {0}) NodeView) : Type 0 where
   pub kind : me.0.kind ≡ Writes
   pub empty : me.1 ≡ []
   pub size_is : me.0.size ≡ size
@@ -58,7 +58,7 @@ pub record WriterKept (size : Size) (root : Root) (words : List (List ℕ)) (cle
   pub wide : (row : ℕ) → row < length words → length (row_at words row) ≡ 32
   pub readers : length clearings ≡ size.readers
   pub since : length me.0.known.writer_state.since ≡ size.rows
-  pub reached : least root.tree clearings ≤ me.0.known.writer_state.passed
+  pub reached : cleared_up_to root.tree clearings ≤ me.0.known.writer_state.passed
 
 -- the numbers of free rows
 abbrev pub free_numbers : List Row → List ℕ
@@ -113,7 +113,7 @@ pub record PlacesKept (rows fresh : ℕ) (free spots : List ℕ) : Type 0 where
 
 -- what is so of a row that was left: it leaves at the next publish, or it waits since the tree that left it out, which is the
 -- present one or one before it
-pub record IsLeft (writer_state : WriterState) (left : Left) : Type 0 where
+pub record IsRowRetired (writer_state : WriterState) (left : Left) : Type 0 where
   pub some : 1 ≤ left.since
   pub most : left.since ≤ writer_state.tree.number + 1
   pub leaves : has_row writer_state.tree left.row.0 ≡ true → left.since ≡ writer_state.tree.number + 1
@@ -128,8 +128,8 @@ pub record RowsKept (rows : ℕ) (free : List Row) (left : List Left) (firsts : 
   pub first : (row : ℕ) → first_at firsts row ≤ writer_state.tree.number + 1
   pub once : (row : ℕ) → times_gone free left row ≤ 1
   pub inside : (row : ℕ) → 1 ≤ times_gone free left row → row < rows
-  pub free_is : (row : ℕ) → 1 ≤ times row (free_numbers free) → is_free writer_state row ≡ true
+  pub free_is : (row : ℕ) → 1 ≤ times row (free_numbers free) → is_free_row writer_state row ≡ true
   pub present : (row : ℕ) → row < rows → times_gone free left row ≡ 0 → first_at firsts row ≤ writer_state.tree.number → has_row writer_state.tree row ≡ true
-  pub taken : (row : ℕ) → row < rows → times_gone free left row ≡ 0 → writer_state.tree.number < first_at firsts row → is_free writer_state row ≡ true
-  pub queue : (place : ℕ) → place < length left → IsLeft writer_state (left_at left place)
+  pub taken : (row : ℕ) → row < rows → times_gone free left row ≡ 0 → writer_state.tree.number < first_at firsts row → is_free_row writer_state row ≡ true
+  pub queue : (place : ℕ) → place < length left → IsRowRetired writer_state (left_at left place)
   pub order : (place other : ℕ) → place ≤ other → other < length left → (left_at left place).since ≤ (left_at left other).since

@@ -11,7 +11,7 @@ use Rattle.node_slots.specs.declared.view.Known.{Known}
 use Rattle.node_slots.specs.declared.view.NodeView.{NodeView}
 use Rattle.node_slots.specs.Trees.{grace_tree, IsShown}
 use Rattle.node_slots.specs.Places.{root_place, pin_place, word_place, word_count}
-use Rattle.node_slots.specs.Views.{view_at}
+use Rattle.node_slots.specs.Views.{node_view_at}
 
 -- what is so of a reader: its pin stands in its place, and what the grace protocol keeps of its snapshot
 pub record FitsReader (size : Size) (words : List ℕ) (known : Known) (view : NodeView) : Type 0 where
@@ -27,14 +27,14 @@ pub record FitsWriter (size : Size) (known : Known) (seat : ℕ) (view : NodeVie
   pub knows : view.known ≡ known
 
 -- what is so of each seat
-pub record Fits (size : Size) (words : List ℕ) (known : Known) (seat : ℕ) (view : NodeView) : Type 0 where
+pub record NodeSeatFits (size : Size) (words : List ℕ) (known : Known) (seat : ℕ) (view : NodeView) : Type 0 where
   pub reader : view.kind ≡ Reads → FitsReader size words known view
   pub writer : view.kind ≡ Writes → FitsWriter size known seat view
 
 -- each reader has at most one seat
 abbrev pub AreApart : List NodeView → Type 0
-AreApart views = (seat other : ℕ) → (view_at views seat).kind ≡ Reads → (view_at views other).kind ≡ Reads
-    → (view_at views seat).reader ≡ (view_at views other).reader → seat ≡ other
+AreApart views = (seat other : ℕ) → (node_view_at views seat).kind ≡ Reads → (node_view_at views other).kind ≡ Reads
+    → (node_view_at views seat).reader ≡ (node_view_at views other).reader → seat ≡ other
 
 -- what the writer knows is a writer's state of the grace protocol whose present tree the root names, and this tree meets the layout
 pub record Stands (size : Size) (known : Known) : Type 0 where
@@ -58,10 +58,10 @@ pub record HasWords (size : Size) (words : List ℕ) (known : Known) : Type 0 wh
 pub record ShowsKnown (size : Size) (state : State (Unit {0}) NodeView) (known : Known) : Type 0 where
   pub stands : Stands size known
   pub words : HasWords size state.words known
-  pub seats : (seat : ℕ) → Fits size state.words known seat (view_at state.views seat)
+  pub seats : (seat : ℕ) → NodeSeatFits size state.words known seat (node_view_at state.views seat)
   pub apart : AreApart state.views
 
 -- the rule
-pub record Shows (size : Size) (state : State (Unit {0}) NodeView) : Type 0 where
+pub record ShowsGrace (size : Size) (state : State (Unit {0}) NodeView) : Type 0 where
   pub known : Known
   pub shows : ShowsKnown size state known

@@ -11,7 +11,7 @@ unfoldable pub shown_rows : ShownTree → List ℕ
 shown_rows shown = tree_rows (at_of shown.words) (tree_of (at_of shown.words) shown.root)
 
 -- the tree as the grace protocol has it
-abbrev pub grace_tree : ShownTree → grace.Tree
+abbrev pub grace_tree : ShownTree → grace.GraceTreeView
 grace_tree shown = record { number = shown.root.tree; rows = shown_rows shown; words = shown.words }
 
 -- a tree that readers can load

@@ -35,8 +35,8 @@ abbrev pub no_known : Known
 no_known = first_known no_size 0
 
 -- the writer of a new table, after so many readers were made
-abbrev pub opened_view : Size → ℕ → NodeView
-opened_view size made = record {
+abbrev pub opened_node_view : Size → ℕ → NodeView
+opened_node_view size made = record {
   size = size;
   kind = Writes;
   reader = 0;
@@ -67,20 +67,20 @@ reader_view size reader = record {
 }
 
 -- a seat that was joined into another
-abbrev pub spent_view : NodeView
-spent_view = record (reader_view no_size 0) { kind = Spent }
+abbrev pub spent_node_view : NodeView
+spent_node_view = record (reader_view no_size 0) { kind = Spent }
 
 -- a seat by its number
-abbrev pub view_at : List NodeView → ℕ → NodeView
-view_at views seat = slice_index_or views seat spent_view
+abbrev pub node_view_at : List NodeView → ℕ → NodeView
+node_view_at views seat = slice_index_or views seat spent_node_view
 
 -- a new reader
-abbrev pub new_reader : NodeView → NodeView
-new_reader view = reader_view view.size view.known.made
+abbrev pub new_node_reader : NodeView → NodeView
+new_node_reader view = reader_view view.size view.known.made
 
 -- the writer after it made a reader
-abbrev pub after_reader : NodeView → NodeView
-after_reader view = record view { known = record view.known { made = view.known.made + 1 } }
+abbrev pub after_node_reader : NodeView → NodeView
+after_node_reader view = record view { known = record view.known { made = view.known.made + 1 } }
 
 -- open: the pin becomes odd
 abbrev pub open_at : NodeView → NodeView
@@ -99,12 +99,12 @@ abbrev pub close_at : NodeView → NodeView
 close_at view = record view { pin = turned view.pin; snapshot = None }
 
 -- a seat was joined into it
-abbrev pub joined_at : NodeView → NodeView
-joined_at view = record view { joins = view.joins + 1 }
+abbrev pub node_joined_at : NodeView → NodeView
+node_joined_at view = record view { joins = view.joins + 1 }
 
 -- a word of a row becomes this one
-abbrev pub store_at : NodeView → ℕ → ℕ → ℕ → NodeView
-store_at view row place word = record view { known = record view.known { writer_state = filled view.known.writer_state row place word } }
+abbrev pub node_store_at : NodeView → ℕ → ℕ → ℕ → NodeView
+node_store_at view row place word = record view { known = record view.known { writer_state = filled view.known.writer_state row place word } }
 
 -- fill: the row has these words
 abbrev pub fill_at : NodeView → ℕ → List ℕ → NodeView

@@ -3,10 +3,10 @@ ghost use Rattle.std.specs.Arc.{arc_value};
 ghost use Rattle.std.specs.VecDeque.{deque_capacity};
 ghost use Rattle.node_slots.specs.declared.seats.NodeSeat.{NodeSeat as Reader};
 ghost use Rattle.node_slots.specs.Places.{word_count};
-ghost use Rattle.node_slots.specs.Views.{opened_view, reader_view, new_reader, after_reader};
+ghost use Rattle.node_slots.specs.Views.{opened_node_view, reader_view, new_node_reader, after_node_reader};
 ghost use Rattle.node_slots.specs.Kept.{IsSize, free_numbers, FallsFrom};
 ghost use Rattle.node_slots.specs.Opening.{IsFreeFrom};
-ghost use Rattle.node_slots.specs.Seats.{size_of, IsOf, Writes, view, sight, free_of, left_of};
+ghost use Rattle.node_slots.specs.Seats.{size_of, IsOfNodeTable, WritesNodeTable, node_view, node_sight, free_of, retired_rows};
 
 use crate::first_words::FirstWords;
 use crate::note::RowNote;
@@ -47,13 +47,13 @@ impl NodeTable {
     ) -> Result<(NodeTable, NodeWriter, Vec<NodeSeat>), NoMemory>
         requires size { IsSize (record { rows = rows; slots = slots; readers = readers }) }
         ensures table { IfOk result (λ made. size_of made.0 ≡ record { rows = rows; slots = slots; readers = readers }) }
-        ensures writer { IfOk result (λ made. Writes made.1 made.0
-            × (sight made.1 ≡ opened_view (record { rows = rows; slots = slots; readers = readers }) readers)) }
+        ensures writer { IfOk result (λ made. WritesNodeTable made.1 made.0
+            × (node_sight made.1 ≡ opened_node_view (record { rows = rows; slots = slots; readers = readers }) readers)) }
         ensures free { IfOk result (λ made. IsFreeFrom 1 rows (free_of made.1)) }
-        ensures left { IfOk result (λ made. left_of made.1 ≡ []) }
+        ensures left { IfOk result (λ made. retired_rows made.1 ≡ []) }
         ensures seats { IfOk result (λ made. length made.2.items ≡ readers) }
-        ensures fresh { IfOk result (λ made. (reader : ℕ) (seat : Reader) → slice_get made.2.items reader ≡ Some seat → IsOf seat made.0
-            × (view seat ≡ reader_view (record { rows = rows; slots = slots; readers = readers }) reader)) }
+        ensures fresh { IfOk result (λ made. (reader : ℕ) (seat : Reader) → slice_get made.2.items reader ≡ Some seat → IsOfNodeTable seat made.0
+            × (node_view seat ≡ reader_view (record { rows = rows; slots = slots; readers = readers }) reader)) }
     {
         let words = FirstWords::new(alloc, rows)?;
         NodeTable::of_words(alloc, words, rows, slots, readers)
@@ -70,13 +70,13 @@ impl NodeTable {
         requires size { IsSize (record { rows = rows; slots = slots; readers = readers }) }
         requires words { word_count (record { rows = rows; slots = slots; readers = readers }) ≤ words.count }
         ensures table { IfOk result (λ made. size_of made.0 ≡ record { rows = rows; slots = slots; readers = readers }) }
-        ensures writer { IfOk result (λ made. Writes made.1 made.0
-            × (sight made.1 ≡ opened_view (record { rows = rows; slots = slots; readers = readers }) readers)) }
+        ensures writer { IfOk result (λ made. WritesNodeTable made.1 made.0
+            × (node_sight made.1 ≡ opened_node_view (record { rows = rows; slots = slots; readers = readers }) readers)) }
         ensures free { IfOk result (λ made. IsFreeFrom 1 rows (free_of made.1)) }
-        ensures left { IfOk result (λ made. left_of made.1 ≡ []) }
+        ensures left { IfOk result (λ made. retired_rows made.1 ≡ []) }
         ensures seats { IfOk result (λ made. length made.2.items ≡ readers) }
-        ensures fresh { IfOk result (λ made. (reader : ℕ) (seat : Reader) → slice_get made.2.items reader ≡ Some seat → IsOf seat made.0
-            × (view seat ≡ reader_view (record { rows = rows; slots = slots; readers = readers }) reader)) }
+        ensures fresh { IfOk result (λ made. (reader : ℕ) (seat : Reader) → slice_get made.2.items reader ≡ Some seat → IsOfNodeTable seat made.0
+            × (node_view seat ≡ reader_view (record { rows = rows; slots = slots; readers = readers }) reader)) }
     {
         let size = Size {
             rows,
@@ -93,13 +93,13 @@ impl NodeTable {
 
     /// The next reader.
     fn new_reader(&self, writer: &mut NodeWriter, reader: u32) -> NodeSeat
-        requires table { Writes writer.old self.now }
-        requires reader { (reader ≡ (sight writer.old).known.made) × (reader < (size_of self.now).readers) }
-        ensures table { Writes writer.new self.now × IsOf result self.now }
-        ensures writer { sight writer.new ≡ after_reader (sight writer.old) }
+        requires table { WritesNodeTable writer.old self.now }
+        requires reader { (reader ≡ (node_sight writer.old).known.made) × (reader < (size_of self.now).readers) }
+        ensures table { WritesNodeTable writer.new self.now × IsOfNodeTable result self.now }
+        ensures writer { node_sight writer.new ≡ after_node_reader (node_sight writer.old) }
         ensures free { free_of writer.new ≡ free_of writer.old }
-        ensures left { left_of writer.new ≡ left_of writer.old }
-        ensures view { view result ≡ new_reader (sight writer.old) }
+        ensures left { retired_rows writer.new ≡ retired_rows writer.old }
+        ensures view { node_view result ≡ new_node_reader (node_sight writer.old) }
     {
         let seat = self
             .table
@@ -118,9 +118,9 @@ fn open(alloc: Global, words: FirstWords, size: Size) -> Result<(NodeTable, Node
     requires size { IsSize size }
     requires words { word_count size ≤ words.count }
     ensures table { IfOk result (λ made. size_of made.0 ≡ size) }
-    ensures writer { IfOk result (λ made. Writes made.1 made.0 × (sight made.1 ≡ opened_view size 0)) }
+    ensures writer { IfOk result (λ made. WritesNodeTable made.1 made.0 × (node_sight made.1 ≡ opened_node_view size 0)) }
     ensures free { IfOk result (λ made. IsFreeFrom 1 size.rows (free_of made.1)) }
-    ensures left { IfOk result (λ made. left_of made.1 ≡ []) }
+    ensures left { IfOk result (λ made. retired_rows made.1 ≡ []) }
 {
     let (table, writer_state) = open_seat(alloc, words, size)?;
     let writer = NodeWriter {
@@ -144,7 +144,7 @@ fn open_seat(
     requires words { word_count size ≤ words.count }
     ensures table { IfOk result (λ made. size_of made.0 ≡ size) }
     ensures seat { IfOk result (λ made. (made.1.seat.table_id ≡ (arc_value made.0.table).shared.table_id) × (made.1.table.size ≡ size)
-        × (made.1.seat.me.0 ≡ opened_view size 0)) }
+        × (made.1.seat.me.0 ≡ opened_node_view size 0)) }
     ensures blank { IfOk result (λ made. length made.1.words.items ≡ 0) }
 {
     let clearings = vec![in alloc; NEW_CLEARING; size.readers as usize]?;

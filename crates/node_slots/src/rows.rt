@@ -1,14 +1,14 @@
 ghost use Rattle.std.specs.Prelude.{◌≡◌, ◌≤◌, ◌<◌, ◌+◌, ◌-◌, ◌^◌, ℕ, min, max, true, false, nat_eq, if◌then◌else◌, List, [], ◌∷◌, ◌++◌, length, slice_set, MatchOption, IfSome, OnSome, IfOk};
 ghost use Rattle.std.specs.List.Sorted.{IsPermutation};
 ghost use Rattle.grace_core.specs.Core.{since_at, times};
-ghost use Rattle.grace_core.specs.Steps.{least};
+ghost use Rattle.grace_core.specs.Steps.{cleared_up_to};
 ghost use Rattle.maple_node.specs.Levels.{at_of};
 ghost use Rattle.maple_node.specs.Trees.{tree_of, IsLayout};
 ghost use Rattle.node_slots.specs.Views.{fill_at, publish_at, scan_from};
 ghost use Rattle.node_slots.specs.Kept.{left_at, number_at, replaced_of};
 ghost use Rattle.node_slots.specs.Built.{words_at};
 ghost use Rattle.node_slots.specs.Choosing.{IsNearest, takes_fresh, touched};
-ghost use Rattle.node_slots.specs.Seats.{size_of, Writes, StaysAt, sight, writer_state, row_count, free_of, left_of, is_present, is_waiting, is_kept, is_taken, count_of, next_root, next_shown, pins_of, AreOut, ReachesNewRows};
+ghost use Rattle.node_slots.specs.Seats.{size_of, WritesNodeTable, StaysAt, node_sight, writer_state, row_count, free_of, retired_rows, is_present, is_waiting, is_kept, is_taken_row, one_where, next_root, next_shown, pins_of, AreOut, ReachesNewRows};
 
 use crate::choosing::{note_replaced, note_spot};
 use crate::left::Left;
@@ -24,24 +24,24 @@ static EMPTY_ROW: [u64; NODE_WORDS] = [0; NODE_WORDS];
 impl NodeTable {
     /// Takes the last row of the writer's free list. None exactly where the list is empty.
     pub fn take_row(&self, writer: &mut NodeWriter) -> Option<Row>
-        requires table { Writes writer.old self.now }
-        ensures table { Writes writer.new self.now }
+        requires table { WritesNodeTable writer.old self.now }
+        ensures table { WritesNodeTable writer.new self.now }
         ensures free { MatchOption result ((free_of writer.old ≡ []) × (free_of writer.new ≡ []))
             (λ row. free_of writer.old ≡ free_of writer.new ++ row.0 ∷ []) }
-        ensures taken { IfSome result (λ row. is_taken writer.new row.0 ≡ true) }
-        ensures left { left_of writer.new ≡ left_of writer.old }
-        ensures view { sight writer.new ≡ sight writer.old }
+        ensures taken { IfSome result (λ row. is_taken_row writer.new row.0 ≡ true) }
+        ensures left { retired_rows writer.new ≡ retired_rows writer.old }
+        ensures view { node_sight writer.new ≡ node_sight writer.old }
     {
         writer.take_last()
     }
 
     /// Stores the words of a row that was taken and is not published.
     pub fn fill(&self, writer: &mut NodeWriter, row: Row, words: &[u64; 32])
-        requires table { Writes writer.old self.now }
-        requires taken { is_taken writer.old row.0 ≡ true }
-        ensures table { Writes writer.new self.now }
-        ensures view { sight writer.new ≡ fill_at (sight writer.old) row.0 words.now }
-        ensures lists { (free_of writer.new ≡ free_of writer.old) × (left_of writer.new ≡ left_of writer.old) }
+        requires table { WritesNodeTable writer.old self.now }
+        requires taken { is_taken_row writer.old row.0 ≡ true }
+        ensures table { WritesNodeTable writer.new self.now }
+        ensures view { node_sight writer.new ≡ fill_at (node_sight writer.old) row.0 words.now }
+        ensures lists { (free_of writer.new ≡ free_of writer.old) × (retired_rows writer.new ≡ retired_rows writer.old) }
         ensures touched { touched writer.new ≡ max (touched writer.old) (row.0 + 1) }
     {
         writer.fill(row, words);
@@ -50,12 +50,12 @@ impl NodeTable {
     /// Leaves a row of the present tree, or one that was taken and is not published, and that was not left since. A row of the
     /// present tree leaves at the next publish; one that was taken is free at once.
     pub fn leave(&self, writer: &mut NodeWriter, row: Row)
-        requires table { Writes writer.old self.now }
+        requires table { WritesNodeTable writer.old self.now }
         requires kept { is_kept writer.old row.0 ≡ true }
-        ensures table { Writes writer.new self.now }
-        ensures view { sight writer.new ≡ sight writer.old }
+        ensures table { WritesNodeTable writer.new self.now }
+        ensures view { node_sight writer.new ≡ node_sight writer.old }
         ensures free { free_of writer.new ≡ (if is_present writer.old row.0 then free_of writer.old else free_of writer.old ++ row.0 ∷ []) }
-        ensures left { left_of writer.new ≡ (if is_present writer.old row.0 then left_of writer.old ++ row.0 ∷ [] else left_of writer.old) }
+        ensures left { retired_rows writer.new ≡ (if is_present writer.old row.0 then retired_rows writer.old ++ row.0 ∷ [] else retired_rows writer.old) }
     {
         writer.leave(row);
     }
@@ -63,15 +63,15 @@ impl NodeTable {
     /// Publishes a tree by its root and height: it is the present one, with the next number. Its rows are those of the present
     /// tree and those that were taken, without those that were left.
     pub fn publish(&self, writer: &mut NodeWriter, root: Row, height: u32)
-        requires table { Writes writer.old self.now }
+        requires table { WritesNodeTable writer.old self.now }
         requires height { height ≤ 9 }
         requires number { (writer_state writer.old).tree.number < 2 ^ 40 - 1 }
-        requires layout { IsLayout (at_of (writer_state writer.old).words) (sight writer.old).size.slots
+        requires layout { IsLayout (at_of (writer_state writer.old).words) (node_sight writer.old).size.slots
             (tree_of (at_of (writer_state writer.old).words) (next_root writer.old root.0 height)) }
         requires rows { ReachesNewRows writer.old (next_shown writer.old root.0 height) }
-        ensures table { Writes writer.new self.now }
-        ensures view { sight writer.new ≡ publish_at (sight writer.old) (next_root writer.old root.0 height) }
-        ensures lists { (free_of writer.new ≡ free_of writer.old) × (left_of writer.new ≡ left_of writer.old) }
+        ensures table { WritesNodeTable writer.new self.now }
+        ensures view { node_sight writer.new ≡ publish_at (node_sight writer.old) (next_root writer.old root.0 height) }
+        ensures lists { (free_of writer.new ≡ free_of writer.old) × (retired_rows writer.new ≡ retired_rows writer.old) }
     {
         let root = Root {
             tree: writer.writer_state.root.tree + 1,
@@ -84,13 +84,13 @@ impl NodeTable {
     /// Loads every pin once, and answers how many rows came into the writer's free list: those that were left out by a tree up to
     /// which every reader is cleared.
     pub fn scan(&self, writer: &mut NodeWriter) -> u32
-        requires table { Writes writer.old self.now }
-        ensures table { Writes writer.new self.now }
-        ensures view { (pins : List ℕ) × (length pins ≡ (size_of self.now).readers) × (sight writer.new ≡ scan_from 0 pins (sight writer.old)) }
+        requires table { WritesNodeTable writer.old self.now }
+        ensures table { WritesNodeTable writer.new self.now }
+        ensures view { (pins : List ℕ) × (length pins ≡ (size_of self.now).readers) × (node_sight writer.new ≡ scan_from 0 pins (node_sight writer.old)) }
         ensures freed { (rows : List ℕ) × (length rows ≡ result)
-            × (free_of writer.new ≡ free_of writer.old ++ rows) × (left_of writer.old ≡ rows ++ left_of writer.new) }
+            × (free_of writer.new ≡ free_of writer.old ++ rows) × (retired_rows writer.old ≡ rows ++ retired_rows writer.new) }
         ensures rest { (row : ℕ) → is_waiting writer.new row ≡ true
-            → least (writer_state writer.new).tree.number (writer_state writer.new).clearings < since_at (writer_state writer.new).since row }
+            → cleared_up_to (writer_state writer.new).tree.number (writer_state writer.new).clearings < since_at (writer_state writer.new).since row }
         // once it finds every reader closed, no row waits
         ensures gone { AreOut (pins_of writer.new) → (row : ℕ) → is_waiting writer.new row ≡ false }
     {
@@ -104,10 +104,10 @@ impl NodeTable {
 
     /// How many rows are in the writer's free list. Each row of the table is free, was taken, is of the present tree, or waits.
     pub fn free_rows(&self, writer: &NodeWriter) -> u32
-        requires table { Writes writer.now self.now }
+        requires table { WritesNodeTable writer.now self.now }
         ensures length { result ≡ length (free_of writer.now) }
-        ensures counted { (row : ℕ) → row < row_count writer.now → times row (free_of writer.now) + count_of (is_taken writer.now row)
-            + count_of (is_present writer.now row) + count_of (is_waiting writer.now row) ≡ 1 }
+        ensures counted { (row : ℕ) → row < row_count writer.now → times row (free_of writer.now) + one_where (is_taken_row writer.now row)
+            + one_where (is_present writer.now row) + one_where (is_waiting writer.now row) ≡ 1 }
     {
         writer.free.len() as u32
     }
@@ -119,7 +119,7 @@ impl NodeTable {
         row: Row,
         steps: &mut Steps<L>,
     ) -> &'a [u64; 32]
-        requires table { Writes writer.now self.now }
+        requires table { WritesNodeTable writer.now self.now }
         requires row { row.0 < row_count writer.now }
         ensures words { result.now ≡ words_at writer.now row.0 }
         ensures steps { steps.new ≡ steps.old + 1 }
@@ -133,7 +133,7 @@ impl NodeTable {
 
     /// The greatest tree, at most the present one, such that no row waits that left at its publish or before.
     pub fn settled(&self, writer: &NodeWriter) -> u64
-        requires table { Writes writer.now self.now }
+        requires table { WritesNodeTable writer.now self.now }
         ensures most { result ≤ (writer_state writer.now).tree.number }
         ensures none { (row : ℕ) → is_waiting writer.now row ≡ true → result < since_at (writer_state writer.now).since row }
         ensures greatest { (tree : ℕ) → tree ≤ (writer_state writer.now).tree.number
@@ -149,7 +149,7 @@ impl NodeTable {
 impl NodeWriter {
     /// Another handle of the writer's table.
     pub fn table(&self) -> Result<NodeTable, NoMemory>
-        ensures { IfOk result (λ table. Writes self.now table) }
+        ensures { IfOk result (λ table. WritesNodeTable self.now table) }
     {
         Ok(NodeTable {
             table: Arc::try_clone(&self.writer_state.table.table)?,
@@ -159,7 +159,7 @@ impl NodeWriter {
 
     /// The writer's table.
     pub fn nodes(&self) -> &NodeTable
-        ensures { Writes self.now result.now }
+        ensures { WritesNodeTable self.now result.now }
     {
         &self.writer_state.table
     }
@@ -169,9 +169,9 @@ impl NodeWriter {
         ensures table { StaysAt self.old self.new }
         ensures free { MatchOption result ((free_of self.old ≡ []) × (free_of self.new ≡ []))
             (λ row. free_of self.old ≡ free_of self.new ++ row.0 ∷ []) }
-        ensures taken { IfSome result (λ row. is_taken self.new row.0 ≡ true) }
-        ensures left { left_of self.new ≡ left_of self.old }
-        ensures view { sight self.new ≡ sight self.old }
+        ensures taken { IfSome result (λ row. is_taken_row self.new row.0 ≡ true) }
+        ensures left { retired_rows self.new ≡ retired_rows self.old }
+        ensures view { node_sight self.new ≡ node_sight self.old }
     {
         let last = self.free.len().checked_sub(1)?;
         Some(self.take_at(last))
@@ -186,8 +186,8 @@ impl NodeWriter {
         ensures free { IsPermutation (free_of self.old) (result.0 ∷ free_of self.new) }
         ensures last { place + 1 ≡ length self.old.free.items → free_of self.old ≡ free_of self.new ++ result.0 ∷ [] }
         ensures fresh { self.new.fresh ≡ min self.old.fresh place }
-        ensures taken { is_taken self.new result.0 ≡ true }
-        ensures left { left_of self.new ≡ left_of self.old }
+        ensures taken { is_taken_row self.new result.0 ≡ true }
+        ensures left { retired_rows self.new ≡ retired_rows self.old }
         ensures replaced { replaced_of self.new.notes.items ≡ replaced_of self.old.notes.items }
     {
         let last = self.free[self.free.len() - 1];
@@ -206,12 +206,12 @@ impl NodeWriter {
         ensures free { MatchOption result ((free_of self.old ≡ []) × (free_of self.new ≡ []))
             (λ row. IsPermutation (free_of self.old) (row.0 ∷ free_of self.new)) }
         ensures nearest { IfSome result (λ row. IsNearest self.old old.0 row.0) }
-        ensures fresh { OnSome result (self.new.fresh ≡ self.old.fresh - count_of (takes_fresh self.old old.0)) }
+        ensures fresh { OnSome result (self.new.fresh ≡ self.old.fresh - one_where (takes_fresh self.old old.0)) }
         ensures replaced { IfSome result (λ row. replaced_of self.new.notes.items
             ≡ (if nat_eq row.0 old.0 then replaced_of self.old.notes.items else slice_set (replaced_of self.old.notes.items) row.0 old.0)) }
-        ensures taken { IfSome result (λ row. is_taken self.new row.0 ≡ true) }
-        ensures left { left_of self.new ≡ left_of self.old }
-        ensures view { sight self.new ≡ sight self.old }
+        ensures taken { IfSome result (λ row. is_taken_row self.new row.0 ≡ true) }
+        ensures left { retired_rows self.new ≡ retired_rows self.old }
+        ensures view { node_sight self.new ≡ node_sight self.old }
     {
         if self.free.is_empty() {
             return None;
@@ -224,10 +224,10 @@ impl NodeWriter {
 
     /// Stores the words of a row that was taken and is not published.
     pub fn fill(&mut self, row: Row, words: &[u64; 32])
-        requires taken { is_taken self.old row.0 ≡ true }
+        requires taken { is_taken_row self.old row.0 ≡ true }
         ensures table { StaysAt self.old self.new }
-        ensures view { sight self.new ≡ fill_at (sight self.old) row.0 words.now }
-        ensures lists { (free_of self.new ≡ free_of self.old) × (left_of self.new ≡ left_of self.old) }
+        ensures view { node_sight self.new ≡ fill_at (node_sight self.old) row.0 words.now }
+        ensures lists { (free_of self.new ≡ free_of self.old) × (retired_rows self.new ≡ retired_rows self.old) }
         ensures touched { touched self.new ≡ max (touched self.old) (row.0 + 1) }
     {
         self.writer_state.fill_row(row, words);
@@ -237,9 +237,9 @@ impl NodeWriter {
     pub fn leave(&mut self, row: Row)
         requires kept { is_kept self.old row.0 ≡ true }
         ensures table { StaysAt self.old self.new }
-        ensures view { sight self.new ≡ sight self.old }
+        ensures view { node_sight self.new ≡ node_sight self.old }
         ensures free { free_of self.new ≡ (if is_present self.old row.0 then free_of self.old else free_of self.old ++ row.0 ∷ []) }
-        ensures left { left_of self.new ≡ (if is_present self.old row.0 then left_of self.old ++ row.0 ∷ [] else left_of self.old) }
+        ensures left { retired_rows self.new ≡ (if is_present self.old row.0 then retired_rows self.old ++ row.0 ∷ [] else retired_rows self.old) }
     {
         let next = self.writer_state.root.tree + 1;
         if self.notes[row.0 as usize].first < next {
@@ -256,7 +256,7 @@ impl NodeWriter {
         requires passed { (passed ≤ (writer_state self.old).passed) × (passed ≤ (writer_state self.old).tree.number) }
         ensures writer_state { self.new.writer_state ≡ self.old.writer_state }
         ensures freed { (rows : List ℕ) × (length rows ≡ result)
-            × (free_of self.new ≡ free_of self.old ++ rows) × (left_of self.old ≡ rows ++ left_of self.new) }
+            × (free_of self.new ≡ free_of self.old ++ rows) × (retired_rows self.old ≡ rows ++ retired_rows self.new) }
         ensures rest { (row : ℕ) → is_waiting self.new row ≡ true → passed < since_at (writer_state self.new).since row }
     {
         let waiting = self.left.len() as u32;
@@ -272,8 +272,8 @@ impl NodeWriter {
     fn free_first(&mut self, passed: u64) -> bool
         requires passed { (passed ≤ (writer_state self.old).passed) × (passed ≤ (writer_state self.old).tree.number) }
         ensures writer_state { self.new.writer_state ≡ self.old.writer_state }
-        ensures freed { result ≡ true → (row : ℕ) × (free_of self.new ≡ free_of self.old ++ row ∷ []) × (left_of self.old ≡ row ∷ left_of self.new) }
-        ensures rest { result ≡ false → (free_of self.new ≡ free_of self.old) × (left_of self.new ≡ left_of self.old)
+        ensures freed { result ≡ true → (row : ℕ) × (free_of self.new ≡ free_of self.old ++ row ∷ []) × (retired_rows self.old ≡ row ∷ retired_rows self.new) }
+        ensures rest { result ≡ false → (free_of self.new ≡ free_of self.old) × (retired_rows self.new ≡ retired_rows self.old)
             × ((row : ℕ) → is_waiting self.new row ≡ true → passed < since_at (writer_state self.new).since row) }
     {
         if !self.has_passed(passed) {

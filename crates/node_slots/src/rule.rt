@@ -1,6 +1,6 @@
-ghost use Rattle.node_slots.specs.Rule.{Shows};
-ghost use Rattle.node_slots.specs.Plays.{opened, loaded, word_read, closed, stored, shown_now, pin_found};
-ghost use Rattle.node_slots.specs.Views.{opened_view, spent_view, after_reader, new_reader, joined_at};
+ghost use Rattle.node_slots.specs.Rule.{ShowsGrace};
+ghost use Rattle.node_slots.specs.Plays.{opened, loaded, word_read, closed, fill_tells, shown_now, pin_found};
+ghost use Rattle.node_slots.specs.Views.{opened_node_view, spent_node_view, after_node_reader, new_node_reader, node_joined_at};
 
 use crate::view::{NodeView, Size};
 use atomic_table::{Join, Play, Split, TableRule};
@@ -9,9 +9,9 @@ use atomic_table::{Join, Play, Split, TableRule};
 pub(crate) struct GraceRule;
 
 impl TableRule<(), NodeView, Size> for GraceRule {
-    ghost holds = { Shows };
+    ghost holds = { ShowsGrace };
 
-    ghost first = { λ size. opened_view size 0 };
+    ghost first = { λ size. opened_node_view size 0 };
 }
 
 /// A reader opens.
@@ -46,7 +46,7 @@ impl Play<(), NodeView> for ReaderClosed {
 pub(crate) struct Stored;
 
 impl Play<(), NodeView> for Stored {
-    ghost then = { stored };
+    ghost then = { fill_tells };
 }
 
 /// A tree is published.
@@ -67,16 +67,16 @@ impl Play<(), NodeView> for Scanned {
 pub(crate) struct NewReader;
 
 impl Split<NodeView> for NewReader {
-    ghost left = { after_reader };
+    ghost left = { after_node_reader };
 
-    ghost right = { new_reader };
+    ghost right = { new_node_reader };
 }
 
 /// A reader is joined into another.
 pub(crate) struct Joined;
 
 impl Join<NodeView> for Joined {
-    ghost both = { λ view _. joined_at view };
+    ghost both = { λ view _. node_joined_at view };
 
-    ghost spent = { spent_view };
+    ghost spent = { spent_node_view };
 }

@@ -1,7 +1,7 @@
 ghost use Rattle.std.specs.Arc.{arc_value};
 ghost use Rattle.std.specs.Prelude.{◌≡◌, ◌≤◌, ◌+◌, length, vec_capacity};
 ghost use Rattle.std.specs.VecDeque.{deque_capacity};
-ghost use Rattle.node_slots.specs.Kept.{IsSized, ReaderKept, WriterKept, RowsKept, PlacesKept, firsts_of, spots_of, free_numbers, with_empty};
+ghost use Rattle.node_slots.specs.Kept.{IsNodeTableSized, NodeReaderKept, NodeWriterKept, RowsKept, PlacesKept, firsts_of, spots_of, free_numbers, with_empty};
 
 use crate::left::Left;
 use crate::note::RowNote;
@@ -20,7 +20,7 @@ use std::sync::Arc;
 pub struct NodeTable {
     pub(crate) table: Arc<Table<(), NodeView, Size, GraceRule, Global>, Global>,
     pub(crate) size: Size,
-    pub ghost sized: { IsSized size (arc_value table).shared.key (arc_value table).shared.table_id.words },
+    pub ghost sized: { IsNodeTableSized size (arc_value table).shared.key (arc_value table).shared.table_id.words },
 }
 
 /// A reader of a table.
@@ -30,7 +30,7 @@ pub struct NodeSeat {
     pub(crate) reader: u32,
     /// How many roots it loaded, up to the greatest number.
     pub(crate) walks: u64,
-    pub ghost kept: { ReaderKept reader walks seat.table_id.words seat.me },
+    pub ghost kept: { NodeReaderKept reader walks seat.table_id.words seat.me },
 }
 
 /// The writer's seat, with what it knows of the table.
@@ -44,7 +44,7 @@ pub struct NodeWriterSeat {
     pub(crate) words: Vec<[u64; 32]>,
     /// What the scans of each reader found.
     pub(crate) clearings: Vec<Clearing>,
-    pub ghost kept: { WriterKept table.size root (with_empty table.size.rows words.items) clearings.items seat.me },
+    pub ghost kept: { NodeWriterKept table.size root (with_empty table.size.rows words.items) clearings.items seat.me },
     pub ghost filled: { length words.items ≤ table.size.rows },
     pub ghost room: { table.size.rows ≤ vec_capacity words },
     pub ghost table_is: { seat.table_id ≡ (arc_value table.table).shared.table_id },

@@ -38,9 +38,9 @@ pub struct SeenTree {
 }
 
 impl Model for SeenTree {
-    ghost use Rattle.grace_core.specs.Core.{Tree};
+    ghost use Rattle.grace_core.specs.Core.{GraceTreeView};
 
-    ghost Value = { Tree };
+    ghost Value = { GraceTreeView };
 
     ghost view = { λ tree. record { number = tree.number; rows = tree.rows; words = tree.words } };
 }

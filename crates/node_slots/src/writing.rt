@@ -1,9 +1,9 @@
 ghost use Rattle.std.specs.Prelude.{◌≡◌, ◌<◌, ◌≤◌, ◌+◌, ◌-◌, ◌++◌, true, ℕ, List, length, replicate, max, vec_capacity};
-ghost use Rattle.grace_core.specs.Core.{is_free};
+ghost use Rattle.grace_core.specs.Core.{is_free_row};
 ghost use Rattle.maple_node.specs.Roots.{FitsRoot};
 ghost use Rattle.node_slots.specs.Trees.{IsShown, empty_row};
 ghost use Rattle.node_slots.specs.Plays.{RowsExist};
-ghost use Rattle.node_slots.specs.Views.{store_at, fill_at, named_tree, publish_at, scan_at, scan_from};
+ghost use Rattle.node_slots.specs.Views.{node_store_at, fill_at, named_tree, publish_at, scan_at, scan_from};
 ghost use Rattle.node_slots.specs.Seats.{SitsAt, seat_sight};
 ghost use Rattle.node_slots.specs.Internal.Stores.{store_four_at};
 
@@ -29,8 +29,8 @@ impl NodeWriterSeat {
     fn store_word(&mut self, row: Row, place: usize, word: u64)
         requires row { row.0 < length self.old.words.items }
         requires place { place < 32 }
-        requires free { is_free (seat_sight self.old).known.writer_state row.0 ≡ true }
-        ensures view { seat_sight self.new ≡ store_at (seat_sight self.old) row.0 place word }
+        requires free { is_free_row (seat_sight self.old).known.writer_state row.0 ≡ true }
+        ensures view { seat_sight self.new ≡ node_store_at (seat_sight self.old) row.0 place word }
         ensures same { self.new.table ≡ self.old.table }
         ensures count { length self.new.words.items ≡ length self.old.words.items }
     {
@@ -48,7 +48,7 @@ impl NodeWriterSeat {
     fn store_four(&mut self, row: Row, place: usize, words: &[u64; 32])
         requires row { row.0 < length self.old.words.items }
         requires place { place + 4 ≤ 32 }
-        requires free { is_free (seat_sight self.old).known.writer_state row.0 ≡ true }
+        requires free { is_free_row (seat_sight self.old).known.writer_state row.0 ≡ true }
         ensures view { seat_sight self.new ≡ store_four_at (seat_sight self.old) row.0 place words.now }
         ensures same { self.new.table ≡ self.old.table }
         ensures count { length self.new.words.items ≡ length self.old.words.items }
@@ -70,7 +70,7 @@ impl NodeWriterSeat {
     /// Stores the words of a free row.
     pub(crate) fn fill_row(&mut self, row: Row, words: &[u64; 32])
         requires row { row.0 < self.old.table.size.rows }
-        requires free { is_free (seat_sight self.old).known.writer_state row.0 ≡ true }
+        requires free { is_free_row (seat_sight self.old).known.writer_state row.0 ≡ true }
         ensures view { seat_sight self.new ≡ fill_at (seat_sight self.old) row.0 words.now }
         ensures same { self.new.table ≡ self.old.table }
         ensures touched { length self.new.words.items ≡ max (length self.old.words.items) (row.0 + 1) }

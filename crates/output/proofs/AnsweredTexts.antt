@@ -14,7 +14,7 @@ use Rattle.area_rules.specs.Tables.{AddressSpace}
 use Rattle.area_rules.specs.Steps.{after}
 use Rattle.history.specs.declared.items.Content.{Content}
 use Rattle.history.specs.declared.items.Item.{Item}
-use Rattle.history.specs.Histories.{caller_of, items_of, line_of, journal_of, is_call, read_as, op_of, AsksItself, call_of, answer_by, answer_of, StandsAmong}
+use Rattle.history.specs.Histories.{caller_of, items_of, line_answered, journal_of, is_call, read_as, op_asked, AsksItself, call_made, answer_by, answer_of, StandsAmong}
 use Rattle.history.specs.Checking.{next_line, IsGood}
 use Rattle.history.specs.Coming.{lowest_after}
 use Rattle.history.proofs.Calls.{call_asked, line_call, asked_reads, reads_answer, IsAnswer, answer_made, answer_right, is_answer}
@@ -22,11 +22,11 @@ use Rattle.history.proofs.Numbers.{one_line, own_place}
 use Rattle.history.proofs.Serial.{right_is_answer}
 
 -- what the answer of a line was asked is what the line asks
-pub asked : (config : Config) (space : AddressSpace) (op : Op) → AsksItself op → read_as op ≡ op_of (answer_of config space op)
-asked config space op itself = by_call op (call_of config space op) itself refl
+pub asked : (config : Config) (space : AddressSpace) (op : Op) → AsksItself op → read_as op ≡ op_asked (answer_of config space op)
+asked config space op itself = by_call op (call_made config space op) itself refl
   where
-    by_call : (op : Op) (made : Option Call) → AsksItself op → call_of config space op ≡ made
-        → read_as op ≡ op_of (answer_by config space op made)
+    by_call : (op : Op) (made : Option Call) → AsksItself op → call_made config space op ≡ made
+        → read_as op ≡ op_asked (answer_by config space op made)
     by_call op (Some call) itself is = ap read_as (call_asked config space op call itself is) ∙ asked_reads call
     by_call (ops.Call call) None itself is = let makes : Some call ≡ None = sym (line_call config space call) ∙ is in absurd (cc)
     by_call (ops.Fault page access) None itself is = refl
@@ -36,12 +36,12 @@ asked config space op itself = by_call op (call_of config space op) itself refl
 -- the answer of a line is right after the journal that leads there
 pub line_answer : (config : Config) (journal : List Entry) (op : Op) → AsksItself op
     → IsAnswer config journal (answer_of config (after config journal) op)
-line_answer config journal op itself = by_call op (call_of config (after config journal) op) itself refl
+line_answer config journal op itself = by_call op (call_made config (after config journal) op) itself refl
   where
-    by_call : (op : Op) (made : Option Call) → AsksItself op → call_of config (after config journal) op ≡ made
+    by_call : (op : Op) (made : Option Call) → AsksItself op → call_made config (after config journal) op ≡ made
         → IsAnswer config journal (answer_by config (after config journal) op made)
     by_call op (Some call) itself is =
-        (ap (call_of config (after config journal)) (sym (call_asked config (after config journal) op call itself is)) ∙ is, refl)
+        (ap (call_made config (after config journal)) (sym (call_asked config (after config journal) op call itself is)) ∙ is, refl)
     by_call (ops.Call call) None itself is = refl
     by_call (ops.Fault page access) None itself is = (is, refl)
     by_call ops.Maps None itself is = refl
@@ -73,8 +73,8 @@ pub record IsItemOf (config : Config) (lines : List TraceLine) (before : List It
   pub order : is_call item.content ≡ false → lowest_after (last_or None before) ≤ item.caller
 
 pub answers_it : (config : Config) (lines : List TraceLine) (before : List Item) (line : TraceLine) (item : Item)
-    → IsItemOf config lines before line item → line_of lines before item ≡ Some line
-unfolding line_of
+    → IsItemOf config lines before line item → line_answered lines before item ≡ Some line
+unfolding line_answered
 answers_it config lines before line item is = is.next
 
 pub item_answer : (config : Config) (lines : List TraceLine) (before : List Item) (line : TraceLine) (item : Item)
@@ -86,15 +86,15 @@ item_answer config lines before line item is =
 pub item_good : (config : Config) (lines : List TraceLine) (before : List Item) (line : TraceLine) (item : Item)
     → IsItemOf config lines before line item → IsGood config [] lines before item
 item_good config lines before line item is =
-    let there : Some line ≡ line_of lines before item = sym (answers_it config lines before line item is) in
+    let there : Some line ≡ line_answered lines before item = sym (answers_it config lines before line item is) in
     let right : IsAnswer config (journal_of before) item.content = item_answer config lines before line item is in
-    let asks : read_as line.op ≡ op_of item.content =
-    asked config (after config (journal_of before)) line.op is.asks ∙ ap op_of (sym is.answer) in
+    let asks : read_as line.op ≡ op_asked item.content =
+    asked config (after config (journal_of before)) line.op is.asks ∙ ap op_asked (sym is.answer) in
     record {
       stands = record {
         version = is.version;
         order = order_from_lowest (last_or None before) item is.order;
-        next = subst (λ (o : Option TraceLine). IsSomeAnd o (λ line. read_as line.op ≡ op_of item.content)) there asks;
+        next = subst (λ (o : Option TraceLine). IsSomeAnd o (λ line. read_as line.op ≡ op_asked item.content)) there asks;
         made = answer_made config (journal_of before) item.content right;
         named = subst (λ (o : Option TraceLine). IfSome o (λ line. IfSome line.after (StandsAmong lines before))) there is.told;
       };
@@ -108,8 +108,8 @@ there None P holds = absurd holds
 
 -- what a good item answers
 pub good_line : (config : Config) (lines : List TraceLine) (before : List Item) (item : Item) → IsGood config [] lines before item
-    → (line : TraceLine) × (line_of lines before item ≡ Some line)
-good_line config lines before item good = there (line_of lines before item) (λ line. read_as line.op ≡ op_of item.content) good.stands.next
+    → (line : TraceLine) × (line_answered lines before item ≡ Some line)
+good_line config lines before item good = there (line_answered lines before item) (λ line. read_as line.op ≡ op_asked item.content) good.stands.next
 
 -- a good item has the answer of its line, its version, and a caller that may come
 pub record Known (config : Config) (lines : List TraceLine) (before : List Item) (line : TraceLine) (item : Item) : Type 0 where
@@ -121,13 +121,13 @@ pub record Known (config : Config) (lines : List TraceLine) (before : List Item)
   pub order : is_call item.content ≡ false → lowest_after (last_or None before) ≤ item.caller
 
 pub good_known : (config : Config) (lines : List TraceLine) (before : List Item) (line : TraceLine) (item : Item)
-    → IsGood config [] lines before item → line_of lines before item ≡ Some line → Known config lines before line item
-unfolding line_of
+    → IsGood config [] lines before item → line_answered lines before item ≡ Some line → Known config lines before line item
+unfolding line_answered
 good_known config lines before line item good answers =
     let right : IsAnswer config (journal_of before) item.content =
     is_answer config (journal_of before) item.content good.stands.made good.right in
-    let asks : read_as line.op ≡ op_of item.content =
-    subst (λ (o : Option TraceLine). IsSomeAnd o (λ line. read_as line.op ≡ op_of item.content)) answers good.stands.next in
+    let asks : read_as line.op ≡ op_asked item.content =
+    subst (λ (o : Option TraceLine). IsSomeAnd o (λ line. read_as line.op ≡ op_asked item.content)) answers good.stands.next in
     let space : AddressSpace = after config (journal_of before) in
     record {
       next = answers;

@@ -11,7 +11,7 @@ use Rattle.std.proofs.lemmas.Grind.{get_or_default_zero}
 use Rattle.trace_reader.specs.declared.trace.TraceLine.{TraceLine}
 use Rattle.history.specs.declared.items.Item.{Item}
 use Rattle.history.specs.CallerPlaces.{ArePlaces}
-use Rattle.history.specs.Histories.{lines_of, items_of, line_of, op_of, read_as}
+use Rattle.history.specs.Histories.{lines_of, items_of, line_answered, op_asked, read_as}
 use Rattle.output.specs.declared.answered.AnsweredLines.{AnsweredLines}
 use Rattle.output.specs.Answering.{AnswersNext, AreAnswered}
 use Rattle.output.specs.Giving.{AreLegal}
@@ -23,9 +23,9 @@ there None P holds = absurd holds
 
 -- an item of a legal history answers a line, behind the items before it
 pub answers_line : (lines : List TraceLine) (items : List Item) (index : ℕ) (item : Item) → AreLegal lines items → index < length items
-    → item ≡ get_or items index item → (line : TraceLine) × (line_of lines (take index items) item ≡ Some line)
+    → item ≡ get_or items index item → (line : TraceLine) × (line_answered lines (take index items) item ≡ Some line)
 answers_line lines items index item legal within is =
-    there (line_of lines (take index items) item) (λ line. read_as line.op ≡ op_of item.content)
+    there (line_answered lines (take index items) item) (λ line. read_as line.op ≡ op_asked item.content)
     (legal.2.stands index item (slice_get_read items (length items) index item refl within is)).next
 
 pub none_at : {X : Type 0} (xs : List X) (k : ℕ) (x : X) → xs ≡ [] → slice_get xs k ≡ Some x → ⊥
@@ -51,8 +51,8 @@ pub record Found (state : AnsweredLines) (item : Item) (line : TraceLine) : Type
       → slice_get state.lines.now place ≡ Some line
 
 pub found : (lines : List TraceLine) (before : List Item) (state : AnsweredLines) (item : Item) (line : TraceLine) → AreAnswered lines before state
-    → line_of lines before item ≡ Some line → Found state item line
-unfolding line_of
+    → line_answered lines before item ≡ Some line → Found state item line
+unfolding line_answered
 found lines before state item line are answers =
     let many : ℕ = length (items_of before item.caller) in
     let counted : item.caller < length state.answered.items = elim (cases_lt item.caller (length state.answered.items)) [
@@ -83,8 +83,8 @@ found_next state item next = found next.0 next.1 state item next.3 next.2 next.4
 
 -- the line is the same for whatever items so many lines are answered as
 same_line : (lines others : List TraceLine) (before earlier : List Item) (state : AnsweredLines) (item : Item) → AreAnswered lines before state
-    → AreAnswered others earlier state → item.caller < length state.answered.items → line_of lines before item ≡ line_of others earlier item
-unfolding line_of
+    → AreAnswered others earlier state → item.caller < length state.answered.items → line_answered lines before item ≡ line_answered others earlier item
+unfolding line_answered
 same_line lines others before earlier state item one two within =
     ap (λ (l : List TraceLine). slice_get (lines_of l item.caller) (length (items_of before item.caller))) (sym one.its_lines ∙ two.its_lines)
     ∙ ap (slice_get (lines_of others item.caller)) (sym (one.counts item.caller within) ∙ two.counts item.caller within)
@@ -128,7 +128,7 @@ answered_more lines before old new item count are within counted of_lines of_pla
 pub answered_next : (old new : AnsweredLines) (item : Item) (next : AnswersNext old item) (line : TraceLine) (again : ℕ) → next.3 ≡ line
     → again ≡ get_or old.answered.items item.caller again → new.lines ≡ old.lines → new.places ≡ old.places
     → new.answered.items ≡ set old.answered.items item.caller (again + 1) → (lines : List TraceLine) (before : List Item) → AreAnswered lines before old
-    → (line_of lines before item ≡ Some line) × AreAnswered lines (before ++ item ∷ []) new
+    → (line_answered lines before item ≡ Some line) × AreAnswered lines (before ++ item ∷ []) new
 answered_next old new item next line again is read of_lines of_places pushed lines before are =
     let counted : item.caller < length old.answered.items = (found_next old item next).counted in
     let many : again ≡ length (items_of before item.caller) =

@@ -21,16 +21,16 @@ use Rattle.trace_reader.specs.declared.trace.TraceLine.{TraceLine}
 use Rattle.trace_reader.specs.Calls.{call_named, brk_of, mseal_of}
 use Rattle.text_lexer.specs.Causes.{◌>>=◌, unless}
 use Rattle.text_lexer.specs.Numbers.{number}
-use Rattle.trace_reader.specs.Fields.{access, thread_of}
+use Rattle.trace_reader.specs.Fields.{access, read_thread}
 use Rattle.text_lexer.specs.BadLines.{bad_line, at_line, lines_leave}
-use Rattle.trace_reader.specs.Grammar.{nothing, lines_read, whole, trace_of}
+use Rattle.trace_reader.specs.Grammar.{nothing, lines_read, whole_trace, trace_of}
 use Rattle.text_lexer.specs.Laws.{Follow}
-use Rattle.trace_reader.specs.Lines.{SoFar, version_of, with_header, with_one, with_line, once, with_limit, with_top, with_min, with_heap, with_file, after_setting, after_words, after_line}
+use Rattle.trace_reader.specs.Lines.{SoFar, read_version, with_header, with_one, with_line, once, with_limit, with_top, with_min, with_heap, with_file, after_setting, after_words, after_trace_line}
 use Rattle.text_lexer.specs.Words.{is_comment, begins_with_digit, words_of, text_after_words}
 use Rattle.text_lexer.specs.Lines.{text_of, RawLine, lines_from, raw_lines}
 use Rattle.trace_reader.specs.Operations as operations
-use Rattle.trace_reader.specs.Operations.{fault_of, maps_of, fork_of, called, op_named, op_of, note_of, without_note, line_named, op_has_its_new, line_of}
-use Rattle.trace_reader.specs.Settings.{limit_of, bound_of, file_of}
+use Rattle.trace_reader.specs.Operations.{fault_of, read_maps, read_fork, read_op_of_call, op_named, read_op, read_note, without_note, line_named, op_has_its_new, read_line}
+use Rattle.trace_reader.specs.Settings.{limit_of, bound_of, read_file}
 use Rattle.trace_reader.specs.Values.{child_of, children_of}
 use Rattle.text_lexer.proofs.RawLaws.{raw_lines-AreLinesOf}
 use Rattle.text_lexer.proofs.RawPieces.{lines_from-nil}
@@ -47,7 +47,7 @@ either : {A : Type 0} (P : A → Type 0) (test : Bool) (x y : Result A Cause) �
 either P test x y hx hy = cond_both test x y (λ r. IfOk r P) (λ _. hx) (λ _. hy)
 
 fault_of-forks : (words : List (List ℕ)) → Forks false (fault_of words)
-unfolding fault_of operations.fault
+unfolding fault_of operations.read_fault
 fault_of-forks (addr ∷ wanted ∷ []) = by_parts (number addr) (access wanted)
   where
     by_parts : (a : Result ℕ Cause) (w : Result Access Cause) → Forks false (a >>= λ a. w >>= λ w. Ok (ops.Fault (record { 0 = a / PAGE_SIZE }) w))
@@ -56,18 +56,18 @@ fault_of-forks (addr ∷ wanted ∷ []) = by_parts (number addr) (access wanted)
     by_parts (Err c) w = tt
 fault_of-forks _ = tt
 
-maps_of-forks : (words : List (List ℕ)) → Forks false (maps_of words)
-unfolding maps_of
+maps_of-forks : (words : List (List ℕ)) → Forks false (read_maps words)
+unfolding read_maps
 maps_of-forks [] = refl
 maps_of-forks (word ∷ words) = tt
 
-called-forks : (read : Result Call Cause) → Forks false (called read)
+called-forks : (read : Result Call Cause) → Forks false (read_op_of_call read)
 called-forks (Ok call) = refl
 called-forks (Err c) = tt
 
-fork_of-forks : (words : List (List ℕ)) → Forks true (fork_of words)
-unfolding fork_of
-fork_of-forks (child ∷ []) = by_thread (ok_or (thread_of child) Number)
+fork_of-forks : (words : List (List ℕ)) → Forks true (read_fork words)
+unfolding read_fork
+fork_of-forks (child ∷ []) = by_thread (ok_or (read_thread child) Number)
   where
     by_thread : (r : Result ℕ Cause) → Forks true (r >>= λ c. Ok (ops.Fork c))
     by_thread (Ok c) = refl
@@ -80,10 +80,10 @@ unfolding op_named
 other_op name words other =
     let P : Op → Type 0 = λ op. is_some (child_of op) ≡ false in
     either P (bytes_eq name (codes "fault")) (fault_of words) _ (fault_of-forks words)
-    (either P (bytes_eq name (codes "maps")) (maps_of words) _ (maps_of-forks words)
-    (cond_both (bytes_eq name (codes "fork")) (fork_of words) _ (λ r. IfOk r P) (λ is. absurd (both_ways (bytes_eq name (codes "fork")) other is)) (λ _.
-    either P (bytes_eq name (codes "brk")) (called (brk_of words)) _ (called-forks (brk_of words))
-    (either P (bytes_eq name (codes "mseal")) (called (mseal_of words)) _ (called-forks (mseal_of words))
+    (either P (bytes_eq name (codes "maps")) (read_maps words) _ (maps_of-forks words)
+    (cond_both (bytes_eq name (codes "fork")) (read_fork words) _ (λ r. IfOk r P) (λ is. absurd (both_ways (bytes_eq name (codes "fork")) other is)) (λ _.
+    either P (bytes_eq name (codes "brk")) (read_op_of_call (brk_of words)) _ (called-forks (brk_of words))
+    (either P (bytes_eq name (codes "mseal")) (read_op_of_call (mseal_of words)) _ (called-forks (mseal_of words))
     (called-forks (call_named name words))))))
 
 fork_op : (words : List (List ℕ)) → Forks true (op_named (codes "fork") words)
@@ -104,19 +104,19 @@ abbrev pub names_fork : List (List ℕ) → Bool
 names_fork [] = false
 names_fork (name ∷ words) = bytes_eq name (codes "fork")
 
-some_words : (count : ℕ) (name : List ℕ) (words : List (List ℕ)) → 0 < count → Forks (bytes_eq name (codes "fork")) (op_of (take count (name ∷ words)))
-unfolding op_of
+some_words : (count : ℕ) (name : List ℕ) (words : List (List ℕ)) → 0 < count → Forks (bytes_eq name (codes "fork")) (read_op (take count (name ∷ words)))
+unfolding read_op
 some_words zero name words some = absurd (omega arith)
 some_words (suc count) name words some = op_named-forks name (take count words)
 
 -- what the note leaves begins with the name
-op_of-forks : (words : List (List ℕ)) → Forks (names_fork words) (op_of (without_note words))
-unfolding op_of without_note note_of
+op_of-forks : (words : List (List ℕ)) → Forks (names_fork words) (read_op (without_note words))
+unfolding read_op without_note read_note
 op_of-forks [] = tt
 op_of-forks (name ∷ []) = op_named-forks name []
 op_of-forks (name ∷ word ∷ words) =
-    cond_both (is_some (note_of (name ∷ word ∷ words))) (take (length (name ∷ word ∷ words) - 1) (name ∷ word ∷ words)) (name ∷ word ∷ words)
-    (λ (some : List (List ℕ)). Forks (bytes_eq name (codes "fork")) (op_of some))
+    cond_both (is_some (read_note (name ∷ word ∷ words))) (take (length (name ∷ word ∷ words) - 1) (name ∷ word ∷ words)) (name ∷ word ∷ words)
+    (λ (some : List (List ℕ)). Forks (bytes_eq name (codes "fork")) (read_op some))
     (λ _. some_words (length (name ∷ word ∷ words) - 1) name (word ∷ words) (omega arith))
     (λ _. op_named-forks name (word ∷ words))
 
@@ -136,10 +136,10 @@ line_parts-forks forks number (Ok t) (Ok o) (Ok a) words is = cond_both (op_has_
     (λ _. is) (λ _. tt)
 
 line_of-forks : (number : ℕ) (first : List ℕ) (words : List (List ℕ))
-    → IfOk (line_of number first words) (λ line. is_some (child_of line.op) ≡ names_fork words)
-unfolding line_of
-line_of-forks number first words = line_parts-forks (names_fork words) number (ok_or (thread_of first) Thread) (op_of (without_note words))
-    (line_named (note_of words)) (without_note words) (op_of-forks words)
+    → IfOk (read_line number first words) (λ line. is_some (child_of line.op) ≡ names_fork words)
+unfolding read_line
+line_of-forks number first words = line_parts-forks (names_fork words) number (ok_or (read_thread first) Thread) (read_op (without_note words))
+    (line_named (read_note words)) (without_note words) (op_of-forks words)
 
 -- a line adds a child, or none, to those that were counted, and to those that the lines fork
 abbrev pub Adds : Bool → SoFar → SoFar → Type 0
@@ -223,12 +223,12 @@ after_setting-adds s text first words =
     (either P (bytes_eq first (codes "top")) (with_top s words) _ (with_top-adds s words)
     (either P (bytes_eq first (codes "min")) (with_min s words) _ (with_min-adds s words)
     (either P (bytes_eq first (codes "heap")) (with_heap s words) _ (with_heap-adds s words)
-    (either P (bytes_eq first (codes "file")) (file_of words (text_after_words 6 text) >>= λ file. with_file s file)
-    (Err Word) (file_adds s (file_of words (text_after_words 6 text))) tt)))))
+    (either P (bytes_eq first (codes "file")) (read_file words (text_after_words 6 text) >>= λ file. with_file s file)
+    (Err Word) (file_adds s (read_file words (text_after_words 6 text))) tt)))))
 
 with_header-adds : (s : SoFar) (words : List (List ℕ)) → IfOk (with_header s words) (Adds false s)
 unfolding with_header
-with_header-adds s words = then_adds s (λ version. record s { version = version }) (λ version. none_added s) (ok_or (version_of words) Header)
+with_header-adds s words = then_adds s (λ version. record s { version = version }) (λ version. none_added s) (ok_or (read_version words) Header)
 
 -- ---- any line
 
@@ -252,9 +252,9 @@ after_words-adds s number text (first ∷ words) =
     let P : SoFar → Type 0 = Adds (are_fork_words (first ∷ words)) s in
     cond_both (is_comment first) (Ok s) _ (λ r. IfOk r P)
     (λ comment. subst (λ (b : Bool). Adds b s s) (sym (are_fork_words-is first words false (comment_is first comment))) (none_added s))
-    (λ _. cond_both (begins_with_digit first) (line_of number first words >>= λ line. with_line s line) (after_setting s text first words) (λ r. IfOk r P)
-    (λ digit. subst (λ (b : Bool). IfOk (line_of number first words >>= λ line. with_line s line) (Adds b s)) (sym (are_fork_words-is first words true digit))
-    (line_added (names_fork words) s (line_of number first words) (line_of-forks number first words)))
+    (λ _. cond_both (begins_with_digit first) (read_line number first words >>= λ line. with_line s line) (after_setting s text first words) (λ r. IfOk r P)
+    (λ digit. subst (λ (b : Bool). IfOk (read_line number first words >>= λ line. with_line s line) (Adds b s)) (sym (are_fork_words-is first words true digit))
+    (line_added (names_fork words) s (read_line number first words) (line_of-forks number first words)))
     (λ other. subst (λ (b : Bool). IfOk (after_setting s text first words) (Adds b s)) (sym (are_fork_words-is first words false other))
     (after_setting-adds s text first words)))
 
@@ -270,8 +270,8 @@ after_text-adds s number (Ok text) = by_number (nat_eq number 1)
     by_number false = after_words-adds s number text (words_of text)
 
 -- a good line adds a child exactly where it forks, as its words say
-line_adds : (s : SoFar) (line : RawLine) → IfOk (after_line s line) (Adds (is_fork line) s)
-unfolding after_line is_fork
+line_adds : (s : SoFar) (line : RawLine) → IfOk (after_trace_line s line) (Adds (is_fork line) s)
+unfolding after_trace_line is_fork
 line_adds s line = after_text-adds s line.number (text_of line)
 
 -- ---- all lines
@@ -314,11 +314,11 @@ fork_first number (Ok s) is = refl
 fork_first number (Err first) is = rw (lt-ltb number first.line is) refl
 
 plain_lines : (number start : ℕ) (lines : List RawLine) (s : SoFar) → Follow number start lines → s.children ≡ []
-    → lines_leave plain_line s lines ≡ without_forks (first_fork lines) (lines_leave after_line s lines)
+    → lines_leave plain_line s lines ≡ without_forks (first_fork lines) (lines_leave after_trace_line s lines)
 unfolding plain_line
 plain_lines number start [] s follow none = refl
 plain_lines number start (line ∷ lines) s follow none =
-    by_line (λ next empty. plain_lines (number + 1) _ lines next follow.2 empty) (after_line s line) (is_fork line) (line_adds s line)
+    by_line (λ next empty. plain_lines (number + 1) _ lines next follow.2 empty) (after_trace_line s line) (is_fork line) (line_adds s line)
   where
     no_child : length s.children ≡ 0
     no_child = ap length none
@@ -332,17 +332,17 @@ plain_lines number start (line ∷ lines) s follow none =
     behind (Err first) is = omega (arith, is, follow.0)
 
     by_line : ((next : SoFar) → next.children ≡ []
-        → lines_leave plain_line next lines ≡ without_forks (first_fork lines) (lines_leave after_line next lines))
+        → lines_leave plain_line next lines ≡ without_forks (first_fork lines) (lines_leave after_trace_line next lines))
         → (r : Result SoFar Cause) (forks : Bool) → IfOk r (Adds forks s)
         → at_line line.number (r >>= λ next. if nat_eq (length next.children) 0 then Ok next else Err Child) (λ next. lines_leave plain_line next lines)
-        ≡ without_forks (if forks then Some line.number else first_fork lines) (at_line line.number r (λ next. lines_leave after_line next lines))
+        ≡ without_forks (if forks then Some line.number else first_fork lines) (at_line line.number r (λ next. lines_leave after_trace_line next lines))
     by_line more (Err cause) true adds = sym (bad_first (Some line.number) (bad_line line.number cause) (omega arith))
     by_line more (Err cause) false adds = sym (bad_first (first_fork lines) (bad_line line.number cause)
         (past (first_fork lines) (first_fork-from (number + 1) _ lines follow.2)))
     by_line more (Ok next) true adds =
         let child : nat_eq (length next.children) 0 ≡ false = ne_eqb (length next.children) 0 (λ is. absurd (omega (arith, adds.0, is))) in
-        rw child (sym (fork_first line.number (lines_leave after_line next lines)
-        (behind (lines_leave after_line next lines) (first_bad-from after_line (number + 1) _ lines next follow.2))))
+        rw child (sym (fork_first line.number (lines_leave after_trace_line next lines)
+        (behind (lines_leave after_trace_line next lines) (first_bad-from after_trace_line (number + 1) _ lines next follow.2))))
     by_line more (Ok next) false adds =
         let count : length next.children ≡ 0 = omega (arith, adds.0, no_child) in
         rw (eq-eqb (length next.children) 0 count) (more next (nil_from_length next.children count))
@@ -353,7 +353,7 @@ pub none_read : (lines : List RawLine) (s read : SoFar) → s.children ≡ [] �
 unfolding plain_line
 none_read [] s read none alone is = let same : s ≡ read = cc in ap (λ (r : SoFar). children_of r.lines) (sym same) ∙ alone
 none_read (line ∷ lines) s read none alone is =
-    by_line (λ next empty rest more. none_read lines next read empty rest more) (after_line s line) (is_fork line) (line_adds s line) is
+    by_line (λ next empty rest more. none_read lines next read empty rest more) (after_trace_line s line) (is_fork line) (line_adds s line) is
   where
     before : (length s.children ≡ 0) × (length (children_of s.lines) ≡ 0)
     before = (ap length none, ap length alone)
@@ -372,12 +372,12 @@ none_read (line ∷ lines) s read none alone is =
         more next (nil_from_length next.children count) (nil_from_length (children_of next.lines) forked) good)
         (λ _ bad. absurd cc) is
 
-whole_without : (fork : Option ℕ) (r : Result SoFar BadLine) → whole (without_forks fork r) ≡ without_forks fork (whole r)
+whole_without : (fork : Option ℕ) (r : Result SoFar BadLine) → whole_trace (without_forks fork r) ≡ without_forks fork (whole_trace r)
 whole_without None r = refl
 whole_without (Some number) (Ok s) = refl
 whole_without (Some number) (Err first) = by_test (nat_lt number first.line)
   where
-    by_test : (b : Bool) → whole (if b then Err (bad_line number Child) else Err first) ≡ (if b then Err (bad_line number Child) else Err first)
+    by_test : (b : Bool) → whole_trace (if b then Err (bad_line number Child) else Err first) ≡ (if b then Err (bad_line number Child) else Err first)
     by_test true = refl
     by_test false = refl
 
@@ -403,11 +403,11 @@ plain_is bytes = by_test (nat_eq (length bytes) 0) refl
     fork = first_fork (raw_lines bytes)
 
     by_test : (b : Bool) → nat_eq (length bytes) 0 ≡ b
-        → (if b then Err (bad_line 1 Header) else whole (lines_leave plain_line nothing (raw_lines bytes)))
-        ≡ without_forks fork (if b then Err (bad_line 1 Header) else whole (lines_leave after_line nothing (raw_lines bytes)))
+        → (if b then Err (bad_line 1 Header) else whole_trace (lines_leave plain_line nothing (raw_lines bytes)))
+        ≡ without_forks fork (if b then Err (bad_line 1 Header) else whole_trace (lines_leave after_trace_line nothing (raw_lines bytes)))
     by_test true none = ap (λ (o : Option ℕ). without_forks o (Err (bad_line 1 Header))) (sym (none_forks bytes (eqb-true (length bytes) 0 none)))
-    by_test false some = ap whole (plain_lines 1 0 (raw_lines bytes) nothing (raw_lines-AreLinesOf bytes).follow refl)
-        ∙ whole_without fork (lines_leave after_line nothing (raw_lines bytes))
+    by_test false some = ap whole_trace (plain_lines 1 0 (raw_lines bytes) nothing (raw_lines-AreLinesOf bytes).follow refl)
+        ∙ whole_without fork (lines_leave after_trace_line nothing (raw_lines bytes))
 
 good_without : (fork : Option ℕ) (r : Result Trace BadLine) (trace : Trace) → without_forks fork r ≡ Ok trace → r ≡ Ok trace
 good_without None r trace is = is

@@ -8,7 +8,7 @@ use Rattle.text_lexer.specs.declared.error.Cause.TheVariants.{Header, TooLong, N
 use Rattle.text_lexer.specs.declared.error.BadLine.{BadLine}
 use Rattle.trace_reader.specs.declared.trace.Trace.{Trace}
 use Rattle.text_lexer.specs.BadLines.{bad_line, lines_leave}
-use Rattle.trace_reader.specs.Grammar.{nothing, whole}
+use Rattle.trace_reader.specs.Grammar.{nothing, whole_trace}
 use Rattle.trace_reader.specs.Lines.{SoFar}
 use Rattle.text_lexer.specs.Lines.{input_limit, is_newline, raw_lines}
 use Rattle.text_lexer.proofs.Beginnings.{lines_leave-front}
@@ -23,8 +23,8 @@ unfolding plain_trace_of
 plain_front bytes =
     let front = take (input_limit + 1) bytes in
     let none : nat_eq (length front) 0 ≡ nat_eq (length bytes) 0 = grind (arith, nat_tests, length-take (input_limit + 1) bytes) in
-    ap (λ (b : Bool). if b then Err (bad_line 1 Header) else whole (lines_leave plain_line nothing (raw_lines front))) none
-    ∙ ap (λ (read : Result SoFar BadLine). if nat_eq (length bytes) 0 then Err (bad_line 1 Header) else whole read)
+    ap (λ (b : Bool). if b then Err (bad_line 1 Header) else whole_trace (lines_leave plain_line nothing (raw_lines front))) none
+    ∙ ap (λ (read : Result SoFar BadLine). if nat_eq (length bytes) 0 then Err (bad_line 1 Header) else whole_trace read)
     (lines_leave-front input_limit plain_line plain_line-limited nothing bytes)
 
 -- so do more bytes

@@ -17,7 +17,7 @@ use Rattle.trace_reader.specs.declared.trace.Op.TheVariants as ops
 use Rattle.trace_reader.specs.declared.trace.TraceLine.{TraceLine}
 use Rattle.history.specs.declared.items.Content.TheVariants as contents
 use Rattle.history.specs.declared.items.Item.{Item}
-use Rattle.history.specs.Histories.{caller_of, items_of, line_of, lines_of}
+use Rattle.history.specs.Histories.{caller_of, items_of, line_answered, lines_of}
 use Rattle.history.specs.Labels.{labelled}
 use Rattle.output.specs.Output.{content_text, item_text, maps_text, reply_text, result_text, told_by, verdict_text}
 use Rattle.output.specs.Telling.{told_in_turn}
@@ -58,8 +58,8 @@ many_more trace done before line item many = λ caller.
 
 -- so an item that stands with a line answers it
 answers : (trace done rest : List TraceLine) (before : List Item) (line : TraceLine) (item : Item) → trace ≡ done ++ line ∷ rest
-    → AreAsMany trace done before → line_of trace before (relabelled trace line item) ≡ Some line
-unfolding line_of lines_of
+    → AreAsMany trace done before → line_answered trace before (relabelled trace line item) ≡ Some line
+unfolding line_answered lines_of
 answers trace done rest before line item is many =
     let caller : ℕ = caller_of trace line.thread in
     let its : TraceLine → Bool = λ other. nat_eq (caller_of trace other.thread) caller in

@@ -10,8 +10,8 @@ use Rattle.trace_reader.specs.declared.trace.Trace.{Trace}
 use Rattle.trace_reader.specs.declared.trace.TraceLine.{TraceLine}
 use Rattle.text_lexer.specs.Causes.{◌>>=◌}
 use Rattle.text_lexer.specs.BadLines.{bad_line, lines_leave}
-use Rattle.trace_reader.specs.Grammar.{nothing, trace_so_far, whole}
-use Rattle.trace_reader.specs.Lines.{SoFar, after_line, after_words, with_header}
+use Rattle.trace_reader.specs.Grammar.{nothing, trace_so_far, whole_trace}
+use Rattle.trace_reader.specs.Lines.{SoFar, after_trace_line, after_words, with_header}
 use Rattle.text_lexer.specs.Lines.{input_limit, raw_lines}
 use Rattle.trace_reader.specs.Values.{IsTraceValue, children_of}
 use Rattle.text_lexer.specs.Words.{words_of}
@@ -26,20 +26,20 @@ use Rattle.output.proofs.Children.{none_read, plain_good}
 
 -- the lines of a trace are limited
 pub plain_line-limited : IsLimited input_limit plain_line
-unfolding plain_line after_line
+unfolding plain_line after_trace_line
 plain_line-limited before line past =
     ap (λ (r : Result (List ℕ) Cause). (r >>= λ text. if nat_eq line.number 1 then with_header before (words_of text)
     else after_words before line.number text (words_of text)) >>= λ next. if nat_eq (length next.children) 0 then Ok next else Err Child)
     (text_within-past LINE_LIMIT input_limit line past)
 
-whole_read : (r : Result SoFar BadLine) (trace : Trace) → whole r ≡ Ok trace → (read : SoFar) × (r ≡ Ok read)
+whole_read : (r : Result SoFar BadLine) (trace : Trace) → whole_trace r ≡ Ok trace → (read : SoFar) × (r ≡ Ok read)
 whole_read (Ok read) trace is = (read, refl)
 whole_read (Err first) trace is = absurd cc
 
 -- a trace that does not fork has no byte past the limit
 pub plain_within : (bytes : List ℕ) (trace : Trace) → plain_trace_of bytes ≡ Ok trace → length bytes ≤ input_limit
 unfolding plain_trace_of
-plain_within bytes trace = cond_both (nat_eq (length bytes) 0) (Err (bad_line 1 Header)) (whole (lines_leave plain_line nothing (raw_lines bytes)))
+plain_within bytes trace = cond_both (nat_eq (length bytes) 0) (Err (bad_line 1 Header)) (whole_trace (lines_leave plain_line nothing (raw_lines bytes)))
     (λ r. r ≡ Ok trace → length bytes ≤ input_limit)
     (λ none is. omega (arith, eqb-true (length bytes) 0 none))
     (λ _ is. let read = whole_read (lines_leave plain_line nothing (raw_lines bytes)) trace is in
@@ -48,13 +48,13 @@ plain_within bytes trace = cond_both (nat_eq (length bytes) 0) (Err (bad_line 1 
 -- and no line of it forks
 pub plain_alone : (bytes : List ℕ) (trace : Trace) → plain_trace_of bytes ≡ Ok trace → children_of trace.lines ≡ []
 unfolding plain_trace_of
-plain_alone bytes trace = cond_both (nat_eq (length bytes) 0) (Err (bad_line 1 Header)) (whole (lines_leave plain_line nothing (raw_lines bytes)))
+plain_alone bytes trace = cond_both (nat_eq (length bytes) 0) (Err (bad_line 1 Header)) (whole_trace (lines_leave plain_line nothing (raw_lines bytes)))
     (λ r. r ≡ Ok trace → children_of trace.lines ≡ [])
     (λ none is. absurd cc)
     (λ _ is. of_lines (lines_leave plain_line nothing (raw_lines bytes)) (λ read good. none_read (raw_lines bytes) nothing read refl refl good) is)
   where
     of_lines : (r : Result SoFar BadLine) → ((read : SoFar) → r ≡ Ok read → children_of read.lines ≡ [])
-        → whole r ≡ Ok trace → children_of trace.lines ≡ []
+        → whole_trace r ≡ Ok trace → children_of trace.lines ≡ []
     of_lines (Ok read) alone is =
         let same : trace_so_far read ≡ trace = cc in ap (λ (t : Trace). children_of t.lines) (sym same) ∙ alone read refl
     of_lines (Err first) alone is = absurd cc

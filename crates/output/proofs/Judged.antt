@@ -13,10 +13,10 @@ use Rattle.history.specs.declared.items.Item.{Item}
 use Rattle.history.specs.Histories.{journal_of}
 use Rattle.history.specs.Checking.{IsGood, AreGood}
 use Rattle.history.specs.Coming.{ProgressView, IsProgress, HasNoneLeft}
-use Rattle.output.specs.Output.{start_text, result_text, item_text, told_by, maps_text, listed_text, output_text}
+use Rattle.output.specs.Output.{item_start, result_text, item_text, told_by, maps_text, listed_text, output_text}
 use Rattle.output.specs.declared.given.Given.{Given}
 use Rattle.output.specs.TextLines.{text_lines}
-use Rattle.output.specs.Judgements.{IsEnding, items_text, IsRightText, Fits, IsLegalText, IsFirstBad}
+use Rattle.output.specs.Judgements.{IsEnding, items_text, IsRightText, FitsSoFar, IsLegalText, IsFirstBadOutputLine}
 use Rattle.output.specs.Internal.Judging.{Begins, HasRead, Differs}
 use Rattle.output.proofs.TextLines.{joined, agree_fewer, start_agrees}
 use Rattle.output.proofs.ItemLines.{start_plain}
@@ -41,7 +41,7 @@ begins trace text items given others right count stood is within agree =
 
 -- the text of the items so far is that of a right text
 pub fits_so_far : (trace : Trace) (text : List ℕ) (items : List Item) (given : Given) (ending : List ℕ) (count : ℕ)
-    → Stood trace text items given → IsEnding trace.config trace.lines items ending → count ≤ given.line → Fits trace text count
+    → Stood trace text items given → IsEnding trace.config trace.lines items ending → count ≤ given.line → FitsSoFar trace text count
 fits_so_far trace text items given ending count stood ends within = record {
   items = items;
   text = items_text trace items ++ ending;
@@ -77,7 +77,7 @@ pub record Comes (trace : Trace) (items : List Item) (rest right : List ℕ) (ot
   pub whole : others ≡ items ++ item ∷ later
   pub known : Known trace.config trace.lines items line item
   pub behind : List ℕ
-  pub begins : rest ≡ start_text line item.version ++ behind
+  pub begins : rest ≡ item_start line item.version ++ behind
   pub ending : List ℕ
   pub is : right ≡ (items_text trace items ++ item_text trace.config.files line item) ++ ending
 
@@ -86,8 +86,8 @@ middle [] y ys = refl
 middle (x ∷ xs) y ys = middle xs y ys
 
 start_begins : (line : TraceLine) (version : ℕ) (rest text : List ℕ)
-    → take 1 (text_lines (start_text line version ++ rest)) ≡ take 1 (text_lines text) → (behind : List ℕ) × (text ≡ start_text line version ++ behind)
-unfolding start_text
+    → take 1 (text_lines (item_start line version ++ rest)) ≡ take 1 (text_lines text) → (behind : List ℕ) × (text ≡ item_start line version ++ behind)
+unfolding item_start
 start_begins line version rest text agree = start_agrees _ _ rest text 0 (start_plain line version).none agree
 
 pub comes : (trace : Trace) (text : List ℕ) (items : List Item) (given : Given) (others more : List Item) (right : List ℕ)
@@ -108,7 +108,7 @@ comes trace text items given others (item ∷ later) right read some is whole ag
     (is.good (length items) item (slice_get_within others (length items) item found) found) in
     let its = good_line config lines items item good in
     let line : TraceLine = its.0 in
-    let start : List ℕ = start_text line item.version in
+    let start : List ℕ = item_start line item.version in
     let result : List ℕ = result_text config.files (child_of line.op) item.content in
     let told : List ℕ = told_by (item_text config.files) lines (items ++ item ∷ []) later in
     let text_is : right ≡ items_text trace items ++ ((start ++ result) ++ (told ++ is.ending)) =
@@ -137,8 +137,8 @@ comes trace text items given others (item ∷ later) right read some is whole ag
 pub no_item : (trace : Trace) (text : List ℕ) (items : List Item) (given : Given) → Stood trace text items given
     → (HasNoneLeft trace.lines items → ⊥) → (given.rest.now ≡ [] → ⊥)
     → ((line : TraceLine) (item : Item) (behind : List ℕ) → Known trace.config trace.lines items line item
-    → given.rest.now ≡ start_text line item.version ++ behind → ⊥)
-    → IsFirstBad trace text (given.line + 1)
+    → given.rest.now ≡ item_start line item.version ++ behind → ⊥)
+    → IsFirstBadOutputLine trace text (given.line + 1)
 no_item trace text items given stood left some never = record {
   before = λ count below. fits_so_far trace text items given [] count stood (left_ending trace.config trace.lines items left) (omega arith);
   bad = inl (λ fits.
@@ -158,13 +158,13 @@ legal_right trace text legal = record {
   is = legal.is;
 }
 
-starts : (line : TraceLine) (version : ℕ) (behind : List ℕ) → [] ≡ start_text line version ++ behind → ⊥
-unfolding start_text
+starts : (line : TraceLine) (version : ℕ) (behind : List ℕ) → [] ≡ item_start line version ++ behind → ⊥
+unfolding item_start
 starts line version behind same = cc
 
 -- where the text ends before the lines of the trace do, the line behind it is missing
 pub cut_short : (trace : Trace) (text : List ℕ) (items : List Item) (given : Given) → Stood trace text items given
-    → (HasNoneLeft trace.lines items → ⊥) → given.rest.now ≡ [] → IsFirstBad trace text (given.line + 1)
+    → (HasNoneLeft trace.lines items → ⊥) → given.rest.now ≡ [] → IsFirstBadOutputLine trace text (given.line + 1)
 cut_short trace text items given stood left none =
     let ends = left_ending trace.config trace.lines items left in
     let all : text ≡ items_text trace items ++ [] = stood.read.is ∙ ap (λ (t : List ℕ). items_text trace items ++ t) none in
@@ -196,7 +196,7 @@ Tells lines items rest line = (other : TraceLine) (teller : ℕ) → Begins line
 
 -- the line of the item that comes, as the text tells
 pub known_begins : (config : Config) (lines : List TraceLine) (items : List Item) (rest behind : List ℕ) (line : TraceLine) (item : Item)
-    → Known config lines items line item → rest ≡ start_text line item.version ++ behind → Begins lines items rest line item.caller
+    → Known config lines items line item → rest ≡ item_start line item.version ++ behind → Begins lines items rest line item.caller
 known_begins config lines items rest behind line item known begins = record {
   next = known.next;
   owned = known.owned;
@@ -254,7 +254,7 @@ good_push config lines items item good last = λ place other below found.
 pub bad_item : (trace : Trace) (text : List ℕ) (items : List Item) (given : Given) (progress : ProgressView) (line : TraceLine) (item : Item) (bad : ℕ)
     → Stood trace text items given → IsProgress trace.lines items progress → (HasNoneLeft trace.lines items → ⊥) → (given.rest.now ≡ [] → ⊥)
     → AreNumbered trace.lines → IsItemOf trace.config trace.lines items line item → Tells trace.lines items given.rest.now line
-    → Differs text (items_text trace items ++ item_text trace.config.files line item) bad → IsFirstBad trace text bad
+    → Differs text (items_text trace items ++ item_text trace.config.files line item) bad → IsFirstBadOutputLine trace text bad
 bad_item trace text items given progress line item bad stood going left some numbered is tells differs =
     let config : Config = trace.config in
     let lines : List TraceLine = trace.lines in
@@ -333,7 +333,7 @@ whole_text trace text items given others right count stood all is within agree =
 pub bad_list : (trace : Trace) (text : List ℕ) (items : List Item) (given : Given) (bad : ℕ) → Stood trace text items given
     → HasNoneLeft trace.lines items
     → Differs text (items_text trace items ++ maps_text trace.config.files (after trace.config (journal_of items)).areas) bad
-    → IsFirstBad trace text bad
+    → IsFirstBadOutputLine trace text bad
 bad_list trace text items given bad stood all differs =
     let ending : List ℕ = maps_text trace.config.files (after trace.config (journal_of items)).areas in
     let wanted : List ℕ = items_text trace items ++ ending in
@@ -353,7 +353,7 @@ bad_list trace text items given bad stood all differs =
 -- where the text goes on behind the final list
 pub bad_end : (trace : Trace) (text : List ℕ) (items : List Item) (old new : Given) → Stood trace text items old → HasNoneLeft trace.lines items
     → HasRead text (items_text trace items ++ maps_text trace.config.files (after trace.config (journal_of items)).areas) new
-    → old.line ≤ new.line → (new.rest.now ≡ [] → ⊥) → IsFirstBad trace text (new.line + 1)
+    → old.line ≤ new.line → (new.rest.now ≡ [] → ⊥) → IsFirstBadOutputLine trace text (new.line + 1)
 bad_end trace text items old new stood all read later some =
     let ending : List ℕ = maps_text trace.config.files (after trace.config (journal_of items)).areas in
     let wanted : List ℕ = items_text trace items ++ ending in
@@ -388,7 +388,7 @@ legal_end trace text items old new stood all read none = record {
 }
 
 -- a text with a first bad line is not legal
-pub bad_legal : (trace : Trace) (text : List ℕ) (line : ℕ) → IsFirstBad trace text line → IsLegalText trace text → ⊥
+pub bad_legal : (trace : Trace) (text : List ℕ) (line : ℕ) → IsFirstBadOutputLine trace text line → IsLegalText trace text → ⊥
 bad_legal trace text line first legal = elim first.bad [
   | inl never ↦ never (record { items = legal.items; text = text; right = legal_right trace text legal; agree = refl })
   | inr early ↦ early.short legal

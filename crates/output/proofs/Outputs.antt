@@ -11,7 +11,7 @@ use Rattle.trace_reader.specs.Values.{child_of}
 use Rattle.history.specs.declared.items.Content.{Content}
 use Rattle.history.specs.declared.items.Content.TheVariants as contents
 use Rattle.output.specs.Output.{forked_text, maps_text, result_text}
-use Rattle.output.specs.Giving.{IsCut, Prints}
+use Rattle.output.specs.Giving.{IsCutOff, Prints}
 use Rattle.output.proofs.Pieces.{cut_more, cut_then, prints_then}
 
 -- the line of the count and the lines of the areas
@@ -23,17 +23,17 @@ maps_is files areas = append_assoc (codes "maps ") (decimal (length areas) ++ co
 
 -- into an empty piece: giving ended at the first of two texts
 pub cut_first : (old new : SinkView) (held first second whole : List ℕ) (fault : PrintError) → held ≡ [] → first ++ second ≡ whole
-    → IsCut old new held first fault → IsCut old new [] whole fault
+    → IsCutOff old new held first fault → IsCutOff old new [] whole fault
 cut_first old new held first second whole fault none all cut =
-    subst (λ (h : List ℕ). IsCut old new h whole fault) none
-    (subst (λ (t : List ℕ). IsCut old new held t fault) all (cut_more old new held first second fault cut))
+    subst (λ (h : List ℕ). IsCutOff old new h whole fault) none
+    (subst (λ (t : List ℕ). IsCutOff old new held t fault) all (cut_more old new held first second fault cut))
 
 -- it ended at the second
 pub cut_second : (old mid new : SinkView) (held holds first second whole : List ℕ) (fault : PrintError) → held ≡ [] → first ++ second ≡ whole
-    → Prints old mid held holds first → IsCut mid new holds second fault → IsCut old new [] whole fault
+    → Prints old mid held holds first → IsCutOff mid new holds second fault → IsCutOff old new [] whole fault
 cut_second old mid new held holds first second whole fault none all printed cut =
-    subst (λ (h : List ℕ). IsCut old new h whole fault) none
-    (subst (λ (t : List ℕ). IsCut old new held t fault) all (cut_then old mid new held holds first second fault printed.moved cut))
+    subst (λ (h : List ℕ). IsCutOff old new h whole fault) none
+    (subst (λ (t : List ℕ). IsCutOff old new held t fault) all (cut_then old mid new held holds first second fault printed.moved cut))
 
 -- both were printed
 pub prints_both : (old mid new : SinkView) (held holds last first second whole : List ℕ) → held ≡ [] → first ++ second ≡ whole

@@ -13,7 +13,7 @@ use Rattle.std.specs.Prelude.{IsErrAnd, MatchResult}
 use Rattle.output.specs.declared.error.PrintError.{PrintError}
 use Rattle.output.specs.declared.error.PrintError.TheVariants as errors
 use Rattle.output.specs.declared.giving.TheConstants.{MOST_GIVEN}
-use Rattle.output.specs.Giving.{Gave, IsWhy, IsCut, IsPrinting, Moved, Prints}
+use Rattle.output.specs.Giving.{Gave, IsWhy, IsCutOff, IsPrinting, Moved, Prints}
 
 -- nothing was given
 pub gave_none : (old : SinkView) → Gave old old []
@@ -31,7 +31,7 @@ pub moved_held : (old : SinkView) (held text : List ℕ) → Moved old old held 
 moved_held old held text = record { given = []; gave = gave_none old; split = refl }
 
 -- where memory runs out before anything was given
-pub cut_none : (old : SinkView) (held text : List ℕ) (fault : PrintError) → fault ≡ errors.NoMemory → IsCut old old held text fault
+pub cut_none : (old : SinkView) (held text : List ℕ) (fault : PrintError) → fault ≡ errors.NoMemory → IsCutOff old old held text fault
 cut_none old held text fault is = record { given = []; lost = held ++ text; moved = Appends-nil old.written; split = refl; why = inr (is, refl) }
 
 -- one text after the other
@@ -66,7 +66,7 @@ why_more old new lost more fault why = elim why [
 
 -- the second ended early
 pub cut_then : (old mid new : SinkView) (held holds text more : List ℕ) (fault : PrintError) → Moved old mid held holds text
-    → IsCut mid new holds more fault → IsCut old new held (text ++ more) fault
+    → IsCutOff mid new holds more fault → IsCutOff old new held (text ++ more) fault
 cut_then old mid new held holds text more fault first cut = record {
   given = first.given ++ cut.given;
   lost = cut.lost;
@@ -77,8 +77,8 @@ cut_then old mid new held holds text more fault first cut = record {
 }
 
 -- the first did, so that the second was not begun
-pub cut_more : (old new : SinkView) (held text more : List ℕ) (fault : PrintError) → IsCut old new held text fault
-    → IsCut old new held (text ++ more) fault
+pub cut_more : (old new : SinkView) (held text more : List ℕ) (fault : PrintError) → IsCutOff old new held text fault
+    → IsCutOff old new held (text ++ more) fault
 cut_more old new held text more fault cut = record {
   given = cut.given;
   lost = cut.lost ++ more;
@@ -89,16 +89,16 @@ cut_more old new held text more fault cut = record {
 
 -- it ended early at a line between others
 pub cut_at : (old mid new : SinkView) (held holds text line rest whole : List ℕ) (fault : PrintError) → Prints old mid held holds text
-    → (text ++ line) ++ rest ≡ whole → IsCut mid new holds line fault → IsCut old new held whole fault
+    → (text ++ line) ++ rest ≡ whole → IsCutOff mid new holds line fault → IsCutOff old new held whole fault
 cut_at old mid new held holds text line rest whole fault first all cut =
-    subst (λ (t : List ℕ). IsCut old new held t fault) all
+    subst (λ (t : List ℕ). IsCutOff old new held t fault) all
     (cut_more old new held (text ++ line) rest fault (cut_then old mid new held holds text line fault first.moved cut))
 
 -- memory ran out before the rest was printed
 pub cut_before : (old new : SinkView) (held holds text rest whole : List ℕ) (fault : PrintError) → Prints old new held holds text
-    → text ++ rest ≡ whole → fault ≡ errors.NoMemory → IsCut old new held whole fault
+    → text ++ rest ≡ whole → fault ≡ errors.NoMemory → IsCutOff old new held whole fault
 cut_before old new held holds text rest whole fault first all is =
-    subst (λ (t : List ℕ). IsCut old new held t fault) all
+    subst (λ (t : List ℕ). IsCutOff old new held t fault) all
     (cut_then old new new held holds text rest fault first.moved (cut_none new holds rest fault is))
 
 -- a text was appended to the piece, and then another was printed
@@ -112,7 +112,7 @@ printing_after old new held mid holds text more (Ok done) is prints =
     }
 printing_after old new held mid holds text more (Err fault) is cut =
     cut_then old old new held (held ++ text) text more fault (moved_held old held text)
-    (subst (λ (m : List ℕ). IsCut old new m more fault) is cut)
+    (subst (λ (m : List ℕ). IsCutOff old new m more fault) is cut)
 
 -- one text was printed, and then what printing another results in
 pub printing_then : {T : Type 0} (old mid new : SinkView) (held holds last text more : List ℕ) (result : Result T PrintError) → Prints old mid held holds text
@@ -129,7 +129,7 @@ appends_kept (Some xs) (Some ys) (Some zs) bytes moved kept = kept ∙ moved
 
 -- a call of the sink failed, or memory ran out, after the beginning of a text was given
 pub cut_failed : (old mid new : SinkView) (text : List ℕ) (given : ℕ) → Gave old mid (take given text) → Keeps mid.written new.written → given < length text
-    → new.faults ≡ mid.faults + 1 → FailedLast new.just_failed → IsCut old new [] text errors.WriteFault
+    → new.faults ≡ mid.faults + 1 → FailedLast new.just_failed → IsCutOff old new [] text errors.WriteFault
 cut_failed old mid new text given gave same less counted last = record {
   given = take given text;
   lost = drop given text;
@@ -139,7 +139,7 @@ cut_failed old mid new text given gave same less counted last = record {
 }
 
 pub cut_wanted : (old mid new : SinkView) (text : List ℕ) (given : ℕ) → Gave old mid (take given text) → Keeps mid.written new.written
-    → new.faults ≡ mid.faults → IsCut old new [] text errors.NoMemory
+    → new.faults ≡ mid.faults → IsCutOff old new [] text errors.NoMemory
 cut_wanted old mid new text given gave same calm = record {
   given = take given text;
   lost = drop given text;
@@ -160,8 +160,8 @@ pub prints_front : (old new : SinkView) (held front rest : List ℕ) → held �
 prints_front old new held front rest all few giving =
     record { moved = record { given = front; gave = giving; split = append-nil held ∙ all }; few = few }
 
-pub cut_front : (old new : SinkView) (held front rest : List ℕ) (fault : PrintError) → held ≡ front ++ rest → IsCut old new [] front fault
-    → IsCut old new held [] fault
+pub cut_front : (old new : SinkView) (held front rest : List ℕ) (fault : PrintError) → held ≡ front ++ rest → IsCutOff old new [] front fault
+    → IsCutOff old new held [] fault
 cut_front old new held front rest fault all cut = record {
   given = cut.given;
   lost = cut.lost ++ rest;
@@ -172,15 +172,15 @@ cut_front old new held front rest fault all cut = record {
 
 -- a text was printed, and then what the piece held was given
 pub giving_last : {T : Type 0} (old mid new : SinkView) (holds shown text : List ℕ) (result : Result T PrintError) → Prints old mid [] holds text
-    → shown ≡ holds → MatchResult result (λ done. Gave mid new shown) (λ fault. IsCut mid new [] shown fault)
-    → MatchResult result (λ done. Gave old new text) (λ fault. IsCut old new [] text fault)
+    → shown ≡ holds → MatchResult result (λ done. Gave mid new shown) (λ fault. IsCutOff mid new [] shown fault)
+    → MatchResult result (λ done. Gave old new text) (λ fault. IsCutOff old new [] text fault)
 giving_last old mid new holds shown text (Ok done) first same giving =
     subst (λ (t : List ℕ). Gave old new t) (sym first.moved.split)
     (gave_both old mid new first.moved.given holds first.moved.gave (subst (λ (s : List ℕ). Gave mid new s) same giving))
 giving_last old mid new holds shown text (Err fault) first same cut =
-    subst (λ (t : List ℕ). IsCut old new [] t fault) (append-nil text)
+    subst (λ (t : List ℕ). IsCutOff old new [] t fault) (append-nil text)
     (cut_then old mid new [] holds text [] fault first.moved
-    (let held : IsCut mid new [] holds fault = subst (λ (s : List ℕ). IsCut mid new [] s fault) same cut in
+    (let held : IsCutOff mid new [] holds fault = subst (λ (s : List ℕ). IsCutOff mid new [] s fault) same cut in
     record { given = held.given; lost = held.lost; moved = held.moved; split = append-nil holds ∙ held.split; why = held.why }))
 
 -- nothing was printed
@@ -206,8 +206,8 @@ prints_pushed old new held mid holds text is prints =
       few = prints.few;
     }
 
-pub cut_pushed : (old new : SinkView) (held mid text : List ℕ) (fault : PrintError) → mid ≡ held ++ text → IsCut old new mid [] fault
-    → IsCut old new held text fault
+pub cut_pushed : (old new : SinkView) (held mid text : List ℕ) (fault : PrintError) → mid ≡ held ++ text → IsCutOff old new mid [] fault
+    → IsCutOff old new held text fault
 cut_pushed old new held mid text fault is cut =
     record { given = cut.given; lost = cut.lost; moved = cut.moved; split = sym is ∙ sym (append-nil mid) ∙ cut.split; why = cut.why }
 
@@ -253,6 +253,6 @@ prints_as old new held holds text whole is prints = subst (λ (t : List ℕ). Pr
 
 -- it ended early at the first of two texts
 pub cut_first_of : (old new : SinkView) (held first second whole : List ℕ) (fault : PrintError) → first ++ second ≡ whole
-    → IsCut old new held first fault → IsCut old new held whole fault
+    → IsCutOff old new held first fault → IsCutOff old new held whole fault
 cut_first_of old new held first second whole fault all cut =
-    subst (λ (t : List ℕ). IsCut old new held t fault) all (cut_more old new held first second fault cut)
+    subst (λ (t : List ℕ). IsCutOff old new held t fault) all (cut_more old new held first second fault cut)

@@ -5,12 +5,12 @@ use Rattle.std.specs.Fmt.{digits, digits_onto, digit_glyph}
 use Rattle.std.proofs.lemmas.Bool.{cases_Bool}
 use Rattle.std.proofs.lemmas.Bool.Decides.{nat_tests}
 use Rattle.text_lexer.specs.Lines.{is_newline}
-use Rattle.output.specs.Internal.Printed.{has_none, IsPlain, IsLine}
+use Rattle.output.specs.Internal.Printed.{has_none, IsOfOneLine, IsLine}
 use Rattle.output.proofs.TextLines.{plain_parts}
 use Rattle.mm_types.specs.declared.area.Record.{Record}
 use Rattle.mm_types.specs.declared.area.Span.{Span}
 use Rattle.mm_types.specs.declared.files.FileRow.{FileRow}
-use Rattle.mm_types.specs.MapsText.{hex, start_text, span_text, letter, perms, range_text, place_text, front_text, shown_byte, spaces_before, name_text, Backing, backing, area_text}
+use Rattle.mm_types.specs.MapsText.{hex, page_text, span_text, letter, perms, range_text, place_text, front_text, shown_byte, spaces_before, name_text, Backing, backing, area_text}
 
 none_append : (a b : List ℕ) → has_none a ≡ true → has_none b ≡ true → has_none (a ++ b) ≡ true
 none_append [] b first second = second
@@ -20,15 +20,15 @@ none_append (c ∷ a) b first second =
     rw other (none_append a b parts.1 second)
 
 -- plain bytes behind plain bytes
-pub both : {a b : List ℕ} → IsPlain a → IsPlain b → IsPlain (a ++ b)
+pub both : {a b : List ℕ} → IsOfOneLine a → IsOfOneLine b → IsOfOneLine (a ++ b)
 both {a} {b} first second = record { none = none_append a b first.none second.none }
 
 -- bytes that are written out
-pub written : (text : List ℕ) → has_none text ≡ true → IsPlain text
+pub written : (text : List ℕ) → has_none text ≡ true → IsOfOneLine text
 written text none = record { none = none }
 
 -- plain bytes and a newline are a line
-pub line_of : {text : List ℕ} → IsPlain text → IsLine (text ++ codes "\n")
+pub line_of : {text : List ℕ} → IsOfOneLine text → IsLine (text ++ codes "\n")
 line_of {text} plain = record { body = text; plain = plain; is = refl }
 
 glyph_plain : (upper : Bool) (d : ℕ) → is_newline (digit_glyph upper d) ≡ false
@@ -45,7 +45,7 @@ onto_plain (suc k) base n acc plain =
       | inr front ↦ rw front (onto_plain k base (n / base) (glyph ∷ acc) more)
     ]
 
-pub digits_plain : (base n : ℕ) → IsPlain (digits base false n)
+pub digits_plain : (base n : ℕ) → IsOfOneLine (digits base false n)
 unfolding digits
 digits_plain base n = record { none = onto_plain 64 base n [] refl }
 
@@ -53,18 +53,18 @@ filled_plain : (count c : ℕ) → is_newline c ≡ false → has_none (replicat
 filled_plain zero c other = refl
 filled_plain (suc count) c other = rw other (filled_plain count c other)
 
-filled : (count c : ℕ) → is_newline c ≡ false → IsPlain (replicate count c)
+filled : (count c : ℕ) → is_newline c ≡ false → IsOfOneLine (replicate count c)
 filled count c other = record { none = filled_plain count c other }
 
-hex_plain : (width n : ℕ) → IsPlain (hex width n)
+hex_plain : (width n : ℕ) → IsOfOneLine (hex width n)
 unfolding hex
 hex_plain width n = let text : List ℕ = digits 16 false n in both (filled (width - length text) (byte "0") refl) (digits_plain 16 n)
 
-start_plain : (page : ℕ) → IsPlain (start_text page)
-unfolding start_text
+start_plain : (page : ℕ) → IsOfOneLine (page_text page)
+unfolding page_text
 start_plain page = hex_plain 8 _
 
-span_plain : (span : Span) → IsPlain (span_text span)
+span_plain : (span : Span) → IsOfOneLine (span_text span)
 unfolding span_text
 span_plain span = both (both (start_plain span.lo) (written (codes "-") refl)) (start_plain span.hi)
 
@@ -80,24 +80,24 @@ sharing_plain : (shared : Bool) → is_newline (if shared then byte "s" else byt
 sharing_plain true = refl
 sharing_plain false = refl
 
-perms_plain : (area : Record) → IsPlain (perms area)
+perms_plain : (area : Record) → IsOfOneLine (perms area)
 unfolding perms
 perms_plain area = written (perms area)
     (four (letter area.attr.prot.read (byte "r")) (letter area.attr.prot.write (byte "w")) (letter area.attr.prot.exec (byte "x"))
     (if area.attr.shared then byte "s" else byte "p") (letter_plain area.attr.prot.read (byte "r") refl)
     (letter_plain area.attr.prot.write (byte "w") refl) (letter_plain area.attr.prot.exec (byte "x") refl) (sharing_plain area.attr.shared))
 
-pub range_plain : (area : Record) → IsPlain (range_text area)
+pub range_plain : (area : Record) → IsOfOneLine (range_text area)
 unfolding range_text
 range_plain area = both (both (span_plain area.span) (written (codes " ") refl)) (perms_plain area)
 
-place_plain : (offset : ℕ) (backing : Backing) → IsPlain (place_text offset backing)
+place_plain : (offset : ℕ) (backing : Backing) → IsOfOneLine (place_text offset backing)
 unfolding place_text
 place_plain offset backing =
     both (both (both (both (both (both (start_plain offset) (written (codes " ") refl)) (hex_plain 2 backing.major)) (written (codes ":") refl))
     (hex_plain 2 backing.minor)) (written (codes " ") refl)) (digits_plain 10 backing.inode)
 
-front_plain : (area : Record) (backing : Backing) → IsPlain (front_text area backing)
+front_plain : (area : Record) (backing : Backing) → IsOfOneLine (front_text area backing)
 unfolding front_text
 front_plain area backing =
     both (both (both (range_plain area) (written (codes " ") refl)) (place_plain area.offset backing)) (written (codes " ") refl)
@@ -112,7 +112,7 @@ name_bytes : (name : List ℕ) → has_none (flat_map shown_byte name) ≡ true
 name_bytes [] = refl
 name_bytes (c ∷ name) = none_append (shown_byte c) (flat_map shown_byte name) (shown_plain c) (name_bytes name)
 
-name_plain : (column : ℕ) (name : List ℕ) → IsPlain (name_text column name)
+name_plain : (column : ℕ) (name : List ℕ) → IsOfOneLine (name_text column name)
 unfolding name_text
 name_plain column [] = written [] refl
 name_plain column (c ∷ name) =

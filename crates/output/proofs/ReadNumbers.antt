@@ -16,13 +16,13 @@ use Rattle.std.proofs.lemmas.Str.{IsUtf8-from_ascii}
 use Rattle.std.specs.Str.{IsUtf8}
 use Rattle.trace_reader.specs.declared.trace.TraceLine.{TraceLine}
 use Rattle.text_lexer.specs.Numbers.{digits_of, decimal_of}
-use Rattle.output.specs.Output.{start_text}
+use Rattle.output.specs.Output.{item_start}
 use Rattle.output.specs.Internal.Judging.{TellsNumber}
 
 -- what an item begins with: its number, between `L` and a space
-pub number_between : (line : TraceLine) (version : ℕ) (rest text : List ℕ) → text ≡ start_text line version ++ rest
+pub number_between : (line : TraceLine) (version : ℕ) (rest text : List ℕ) → text ≡ item_start line version ++ rest
     → (behind : List ℕ) × (text ≡ 76 ∷ (decimal line.number ++ (32 ∷ behind)))
-unfolding start_text
+unfolding item_start
 number_between line version rest text is =
     let tail : List ℕ = decimal line.thread ++ (codes " v" ++ (decimal version ++ codes " = ")) in
     (116 ∷ (tail ++ rest), is ∙ ap (λ (t : List ℕ). 76 ∷ t) (append_assoc (decimal line.number) (codes " t" ++ tail) rest))

@@ -22,9 +22,9 @@ use Rattle.output.specs.declared.judgement.Judgement.{Judgement}
 use Rattle.output.specs.declared.judging.Walk.{Walk}
 use Rattle.output.specs.declared.stop.Stop.{Stop}
 use Rattle.output.specs.declared.stop.Stop.TheVariants as stops
-use Rattle.output.specs.Judgements.{items_text, IsFirstBad, IsJudged, IsLegalText}
-use Rattle.output.specs.Internal.Judging.{IsLeft, IsEnded, NoneComes, TellsGoodItem, TheOneComes, HasRead, Differs, IsBadAt, IsWalked, IsToldRightly, end_told, judgement_of}
-use Rattle.output.specs.Internal.Printed.{shown, IsLine, first_text, more_text}
+use Rattle.output.specs.Judgements.{items_text, IsFirstBadOutputLine, IsJudged, IsLegalText}
+use Rattle.output.specs.Internal.Judging.{IsLineLeft, IsEnded, NoneComes, TellsGoodItem, TheOneComes, HasRead, Differs, IsBadAt, IsTextWalked, IsStopRight, end_told, judgement_of}
+use Rattle.output.specs.Internal.Printed.{content_of_answer, IsLine, first_text, more_text}
 use Rattle.output.proofs.AnsweredTexts.{answers_it, item_good, same_line}
 use Rattle.output.proofs.Plain.{area_line}
 use Rattle.output.proofs.Compared.{areas_more, differs_more, differs_areas}
@@ -98,11 +98,11 @@ two_stop text before first more whole stop is bad =
     subst (λ (t : List ℕ). IsBadAt text t stop) (append_assoc before first more ∙ ap (λ (t : List ℕ). before ++ t) (sym is)) bad
 
 -- the text differs from that of the next item
-pub stop_item : (trace : Trace) (text : List ℕ) (walk : Walk) (walked : IsWalked trace text walk) → IsLeft trace.lines walk
+pub stop_item : (trace : Trace) (text : List ℕ) (walk : Walk) (walked : IsTextWalked trace text walk) → IsLineLeft trace.lines walk
     → (walk.given.rest.now ≡ [] → ⊥) → (line : TraceLine) (caller version : ℕ) (areas : List Record) (answer : Answer)
     → TheOneComes trace.lines walked.items walk.given.rest.now line caller → Ran trace walk line caller version areas answer
     → (stop : Stop) → IsBadAt text (items_text trace walked.items ++ item_text trace.config.files line (item_with caller version areas answer)) stop
-    → IsToldRightly trace text stop
+    → IsStopRight trace text stop
 stop_item trace text walk walked left some line caller version areas answer comes ran (stops.Bad bad) differs =
     bad_item trace text walked.items walk.given walk.progress line (item_with caller version areas answer) bad (stood trace text walk walked)
     walked.progress (left walked.items walked.progress) some walked.kept.numbered
@@ -110,7 +110,7 @@ stop_item trace text walk walked left some line caller version areas answer come
 stop_item trace text walk walked left some line caller version areas answer comes ran stops.NoMemory differs = tt
 
 -- and it tells the line of that item, which is good
-pub tells_item : (trace : Trace) (text : List ℕ) (walk : Walk) (walked : IsWalked trace text walk)
+pub tells_item : (trace : Trace) (text : List ℕ) (walk : Walk) (walked : IsTextWalked trace text walk)
     → (line : TraceLine) (caller version : ℕ) (areas : List Record) (answer : Answer)
     → TheOneComes trace.lines walked.items walk.given.rest.now line caller → Ran trace walk line caller version areas answer
     → TellsGoodItem trace walked.items walk.given.rest.now
@@ -125,25 +125,25 @@ tells_item trace text walk walked line caller version areas answer comes ran =
     }
 
 -- the text ends where a line of the trace is left
-pub stop_short : (trace : Trace) (text : List ℕ) (walk : Walk) → IsWalked trace text walk → IsLeft trace.lines walk → walk.given.rest.now ≡ []
-    → IsFirstBad trace text (walk.given.line + 1)
+pub stop_short : (trace : Trace) (text : List ℕ) (walk : Walk) → IsTextWalked trace text walk → IsLineLeft trace.lines walk → walk.given.rest.now ≡ []
+    → IsFirstBadOutputLine trace text (walk.given.line + 1)
 stop_short trace text walk walked left none =
     cut_short trace text walked.items walk.given (stood trace text walk walked) (left walked.items walked.progress) none
 
 -- no item can come next
-pub stop_none : (trace : Trace) (text : List ℕ) (walk : Walk) (walked : IsWalked trace text walk) → IsLeft trace.lines walk
-    → (walk.given.rest.now ≡ [] → ⊥) → NoneComes trace.lines walked.items walk.given.rest.now → IsFirstBad trace text (walk.given.line + 1)
+pub stop_none : (trace : Trace) (text : List ℕ) (walk : Walk) (walked : IsTextWalked trace text walk) → IsLineLeft trace.lines walk
+    → (walk.given.rest.now ≡ [] → ⊥) → NoneComes trace.lines walked.items walk.given.rest.now → IsFirstBadOutputLine trace text (walk.given.line + 1)
 stop_none trace text walk walked left some none =
     no_item trace text walked.items walk.given (stood trace text walk walked) (left walked.items walked.progress) some
     (λ line item behind known begins.
     none line item.caller (known_begins trace.config trace.lines walked.items walk.given.rest.now behind line item known begins))
 
 -- the item that comes is a read of a lower caller than that of the read before it
-pub stop_order : (trace : Trace) (text : List ℕ) (walk : Walk) (walked : IsWalked trace text walk) → IsLeft trace.lines walk
+pub stop_order : (trace : Trace) (text : List ℕ) (walk : Walk) (walked : IsTextWalked trace text walk) → IsLineLeft trace.lines walk
     → (walk.given.rest.now ≡ [] → ⊥) → (line : TraceLine) (caller : ℕ) (areas : List Record) (answer : Answer)
     → TheOneComes trace.lines walked.items walk.given.rest.now line caller
-    → shown areas answer ≡ answer_of walk.space.config walk.space.space line.op
-    → ((is_call (shown areas answer) ≡ false → walk.progress.lowest ≤ caller) → ⊥) → IsFirstBad trace text (walk.given.line + 1)
+    → content_of_answer areas answer ≡ answer_of walk.space.config walk.space.space line.op
+    → ((is_call (content_of_answer areas answer) ≡ false → walk.progress.lowest ≤ caller) → ⊥) → IsFirstBadOutputLine trace text (walk.given.line + 1)
 stop_order trace text walk walked left some line caller areas answer comes made never =
     no_item trace text walked.items walk.given (stood trace text walk walked) (left walked.items walked.progress) some (λ other item behind known begins.
     let config : Config = trace.config in
@@ -153,36 +153,36 @@ stop_order trace text walk walked left some line caller areas answer comes made 
     (comes.tells other item.caller (known_begins config trace.lines walked.items walk.given.rest.now behind other item known begins)) in
     let owner : item.caller ≡ caller =
     known.owned ∙ ap (λ (l : TraceLine). caller_of trace.lines l.thread) same ∙ sym comes.owned in
-    let content : item.content ≡ shown areas answer =
+    let content : item.content ≡ content_of_answer areas answer =
     known.answer ∙ ap (λ (l : TraceLine). answer_of config here l.op) same
     ∙ ap (λ (s : AddressSpace). answer_of config s line.op) (sym walked.space)
     ∙ ap (λ (c : Config). answer_of c walk.space.space line.op) (sym walked.opened) ∙ sym made in
     never (λ read. omega (arith, known.order (ap is_call content ∙ read), owner, walked.progress.lowest)))
 
 -- the text differs from the final list
-pub stop_list : (trace : Trace) (text : List ℕ) (walk : Walk) (walked : IsWalked trace text walk) → IsEnded trace.lines walk → (stop : Stop)
-    → IsBadAt text (items_text trace walked.items ++ maps_text trace.config.files walk.space.space.areas) stop → IsToldRightly trace text stop
+pub stop_list : (trace : Trace) (text : List ℕ) (walk : Walk) (walked : IsTextWalked trace text walk) → IsEnded trace.lines walk → (stop : Stop)
+    → IsBadAt text (items_text trace walked.items ++ maps_text trace.config.files walk.space.space.areas) stop → IsStopRight trace text stop
 stop_list trace text walk walked ended (stops.Bad bad) differs =
     bad_list trace text walked.items walk.given bad (stood trace text walk walked) (ended walked.items walked.progress)
     (subst (λ (s : AddressSpace). Differs text (items_text trace walked.items ++ maps_text trace.config.files s.areas) bad) walked.space differs)
 stop_list trace text walk walked ended stops.NoMemory differs = tt
 
-listed : (trace : Trace) (text : List ℕ) (walk : Walk) (walked : IsWalked trace text walk) (new : Given)
+listed : (trace : Trace) (text : List ℕ) (walk : Walk) (walked : IsTextWalked trace text walk) (new : Given)
     → HasRead text (items_text trace walked.items ++ maps_text trace.config.files walk.space.space.areas) new
     → HasRead text (items_text trace walked.items ++ maps_text trace.config.files (after trace.config (journal_of walked.items)).areas) new
 listed trace text walk walked new read =
     subst (λ (s : AddressSpace). HasRead text (items_text trace walked.items ++ maps_text trace.config.files s.areas) new) walked.space read
 
 -- the text goes on behind the final list
-pub stop_behind : (trace : Trace) (text : List ℕ) (walk : Walk) (walked : IsWalked trace text walk) → IsEnded trace.lines walk
+pub stop_behind : (trace : Trace) (text : List ℕ) (walk : Walk) (walked : IsTextWalked trace text walk) → IsEnded trace.lines walk
     → (new : Given) → HasRead text (items_text trace walked.items ++ maps_text trace.config.files walk.space.space.areas) new
-    → walk.given.line ≤ new.line → (new.rest.now ≡ [] → ⊥) → IsFirstBad trace text (new.line + 1)
+    → walk.given.line ≤ new.line → (new.rest.now ≡ [] → ⊥) → IsFirstBadOutputLine trace text (new.line + 1)
 stop_behind trace text walk walked ended new read later some =
     bad_end trace text walked.items walk.given new (stood trace text walk walked) (ended walked.items walked.progress)
     (listed trace text walk walked new read) later some
 
 -- the text ends with the final list
-pub ends_whole : (trace : Trace) (text : List ℕ) (walk : Walk) (walked : IsWalked trace text walk) → IsEnded trace.lines walk
+pub ends_whole : (trace : Trace) (text : List ℕ) (walk : Walk) (walked : IsTextWalked trace text walk) → IsEnded trace.lines walk
     → (new : Given) → HasRead text (items_text trace walked.items ++ maps_text trace.config.files walk.space.space.areas) new
     → new.rest.now ≡ [] → IsLegalText trace text
 ends_whole trace text walk walked ended new read none =
@@ -191,11 +191,11 @@ ends_whole trace text walk walked ended new read none =
 
 -- what was run, by the answer and whether it is a call
 pub ran_from : (trace : Trace) (walk : Walk) (line : TraceLine) (caller version : ℕ) (areas : List Record) (answer : Answer) (called : Bool)
-    → shown areas answer ≡ answer_of walk.space.config walk.space.space line.op → called ≡ is_call (shown [] answer)
+    → content_of_answer areas answer ≡ answer_of walk.space.config walk.space.space line.op → called ≡ is_call (content_of_answer [] answer)
     → version ≡ walk.progress.version + cond called 1 0 → (called ≡ false → walk.progress.lowest ≤ caller)
     → Ran trace walk line caller version areas answer
 ran_from trace walk line caller version areas answer called made calls counted order =
-    let is : called ≡ is_call (shown areas answer) = calls ∙ sym (shown_call areas answer) in
+    let is : called ≡ is_call (content_of_answer areas answer) = calls ∙ sym (shown_call areas answer) in
     record {
       made = made;
       counted = counted ∙ ap (λ (t : Bool). walk.progress.version + cond t 1 0) is;
@@ -203,16 +203,16 @@ ran_from trace walk line caller version areas answer called made calls counted o
     }
 
 -- an answer that is no call
-pub called_no : (called : Bool) (areas : List Record) (answer : Answer) → called ≡ is_call (shown [] answer) → called ≡ false
-    → is_call (shown areas answer) ≡ false
+pub called_no : (called : Bool) (areas : List Record) (answer : Answer) → called ≡ is_call (content_of_answer [] answer) → called ≡ false
+    → is_call (content_of_answer areas answer) ≡ false
 called_no called areas answer calls read = shown_call areas answer ∙ sym calls ∙ read
 
 -- the version after an item that passed, and the lowest caller that may read
 pub passed_version : (old new version : ℕ) (called : Bool) → new ≡ old + cond called 1 0 → version ≡ old + cond called 1 0 → new ≡ version
 passed_version old new version called one two = one ∙ sym two
 
-pub passed_lowest : (new caller : ℕ) (areas : List Record) (answer : Answer) (called : Bool) → called ≡ is_call (shown [] answer)
-    → new ≡ cond called 0 caller → new ≡ cond (is_call (shown areas answer)) 0 caller
+pub passed_lowest : (new caller : ℕ) (areas : List Record) (answer : Answer) (called : Bool) → called ≡ is_call (content_of_answer [] answer)
+    → new ≡ cond called 0 caller → new ≡ cond (is_call (content_of_answer areas answer)) 0 caller
 passed_lowest new caller areas answer called calls is =
     is ∙ ap (λ (t : Bool). cond t 0 caller) (calls ∙ sym (shown_call areas answer))
 
@@ -244,20 +244,20 @@ none_long [] long = refl
 none_long (c ∷ text) long = absurd (omega arith)
 
 -- what is told of the text behind the final list is right
-pub end_right : (trace : Trace) (text : List ℕ) (walk : Walk) (walked : IsWalked trace text walk) → IsEnded trace.lines walk
+pub end_right : (trace : Trace) (text : List ℕ) (walk : Walk) (walked : IsTextWalked trace text walk) → IsEnded trace.lines walk
     → (new : Given) (listed result : Result (Unit {0}) Stop)
     → OnOk listed (HasRead text (items_text trace walked.items ++ maps_text trace.config.files walk.space.space.areas) new)
     → IfErr listed (IsBadAt text (items_text trace walked.items ++ maps_text trace.config.files walk.space.space.areas))
     → OnOk listed (walk.given.line ≤ new.line) → result ≡ end_told new listed
-    → OnOk result (IsLegalText trace text) × IfErr result (IsToldRightly trace text)
+    → OnOk result (IsLegalText trace text) × IfErr result (IsStopRight trace text)
 end_right trace text walk walked ended new listed result read bad later is =
-    subst (λ (r : Result (Unit {0}) Stop). OnOk r (IsLegalText trace text) × IfErr r (IsToldRightly trace text)) (sym is)
+    subst (λ (r : Result (Unit {0}) Stop). OnOk r (IsLegalText trace text) × IfErr r (IsStopRight trace text)) (sym is)
     (told listed read bad later)
   where
     by_end : (done : Unit {0}) (empty : Bool) → (length new.rest.now == 0) ≡ empty
         → HasRead text (items_text trace walked.items ++ maps_text trace.config.files walk.space.space.areas) new → walk.given.line ≤ new.line
         → OnOk (cond empty (Ok done) (Err (stops.Bad (new.line + 1)))) (IsLegalText trace text)
-        × IfErr (cond empty (Ok done) (Err (stops.Bad (new.line + 1)))) (IsToldRightly trace text)
+        × IfErr (cond empty (Ok done) (Err (stops.Bad (new.line + 1)))) (IsStopRight trace text)
     by_end done true is read later =
         (ends_whole trace text walk walked ended new read (none_long new.rest.now (eqb-true (length new.rest.now) 0 is)), tt)
     by_end done false is read later = (
@@ -270,18 +270,18 @@ end_right trace text walk walked ended new listed result read bad later is =
         → OnOk listed (HasRead text (items_text trace walked.items ++ maps_text trace.config.files walk.space.space.areas) new)
         → IfErr listed (IsBadAt text (items_text trace walked.items ++ maps_text trace.config.files walk.space.space.areas))
         → OnOk listed (walk.given.line ≤ new.line)
-        → OnOk (end_told new listed) (IsLegalText trace text) × IfErr (end_told new listed) (IsToldRightly trace text)
+        → OnOk (end_told new listed) (IsLegalText trace text) × IfErr (end_told new listed) (IsStopRight trace text)
     told (Err stop) read bad later = (tt, stop_list trace text walk walked ended stop bad)
     told (Ok done) read bad later = by_end done (length new.rest.now == 0) refl read later
 
 -- and so is what is judged of the whole text
 pub judged_right : (trace : Trace) (text : List ℕ) (walked : Result (Unit {0}) Stop) (result : Result Judgement NoMemory)
-    → OnOk walked (IsLegalText trace text) → IfErr walked (IsToldRightly trace text) → result ≡ judgement_of walked
+    → OnOk walked (IsLegalText trace text) → IfErr walked (IsStopRight trace text) → result ≡ judgement_of walked
     → IfOk result (IsJudged trace text)
 judged_right trace text walked result legal told is =
     subst (λ (r : Result Judgement NoMemory). IfOk r (IsJudged trace text)) (sym is) (judged walked legal told)
   where
-    judged : (walked : Result (Unit {0}) Stop) → OnOk walked (IsLegalText trace text) → IfErr walked (IsToldRightly trace text)
+    judged : (walked : Result (Unit {0}) Stop) → OnOk walked (IsLegalText trace text) → IfErr walked (IsStopRight trace text)
         → IfOk (judgement_of walked) (IsJudged trace text)
     judged (Ok done) legal told = legal
     judged (Err (stops.Bad line)) legal told = told

@@ -5,7 +5,7 @@ use Rattle.std.proofs.lemmas.List.{drop_more, take_more}
 use Rattle.std.proofs.Math.ListN.{drop_of_length-le}
 use Rattle.trace_reader.specs.declared.trace.TraceLine.{TraceLine}
 use Rattle.history.specs.declared.items.Item.{Item}
-use Rattle.history.specs.Histories.{line_of}
+use Rattle.history.specs.Histories.{line_answered}
 use Rattle.output.specs.Output.{told_by}
 use Rattle.output.specs.declared.answered.AnsweredLines.{AnsweredLines}
 use Rattle.output.specs.Answering.{AnswersNext, AreAnswered}
@@ -35,7 +35,7 @@ told_answers tell lines items index state text item told legal within here =
 pub told_next : {X : Type 0} (tell : TraceLine → Item → List X) (lines : List TraceLine) (items : List Item) (index : ℕ) (old new : AnsweredLines)
     (text more : List X) (item : Item) (line : TraceLine) → Told tell lines items index old text → index < length items → item ≡ get_or items index item
     → ((lines : List TraceLine) (before : List Item) → AreAnswered lines before old
-    → (line_of lines before item ≡ Some line) × AreAnswered lines (before ++ item ∷ []) new)
+    → (line_answered lines before item ≡ Some line) × AreAnswered lines (before ++ item ∷ []) new)
     → more ≡ text ++ tell line item → Told tell lines items (index + 1) new more
 told_next {X} tell lines items index old new text more item line told within here next longer =
     let before : List Item = take index items in

@@ -2,7 +2,7 @@
 use Rattle.std.specs.Prelude.{ℕ, ◌≡◌, ◌<◌, List, length, slice_index, Some}
 use Rattle.trace_reader.specs.declared.trace.TraceLine.{TraceLine}
 use Rattle.history.specs.CallerPlaces.{ArePlaces}
-use Rattle.history.specs.Histories.{items_of, line_of}
+use Rattle.history.specs.Histories.{items_of, line_answered}
 use Rattle.history.specs.declared.items.Item.{Item}
 use Rattle.output.specs.declared.answered.AnsweredLines.{AnsweredLines}
 
@@ -15,4 +15,4 @@ pub record AreAnswered (lines : List TraceLine) (before : List Item) (state : An
 -- behind some items an item answers a line
 abbrev pub AnswersNext : AnsweredLines → Item → Type 0
 AnswersNext state item = (lines : List TraceLine) × (before : List Item) × AreAnswered lines before state
-    × (line : TraceLine) × (line_of lines before item ≡ Some line)
+    × (line : TraceLine) × (line_answered lines before item ≡ Some line)

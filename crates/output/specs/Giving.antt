@@ -38,7 +38,7 @@ pub record Prints (old new : SinkView) (held holds text : List ℕ) : Type 0 whe
   pub few : length holds < MOST_GIVEN
 
 -- Printing it ended early: of what the piece held, and the text after it, a beginning was given.
-pub record IsCut (old new : SinkView) (held text : List ℕ) (error : PrintError) : Type 0 where
+pub record IsCutOff (old new : SinkView) (held text : List ℕ) (error : PrintError) : Type 0 where
   pub given : List ℕ
   pub lost : List ℕ
   pub moved : Appends old.written new.written given
@@ -47,7 +47,7 @@ pub record IsCut (old new : SinkView) (held text : List ℕ) (error : PrintError
 
 -- what printing a text results in
 abbrev pub IsPrinting : {T : Type 0} → SinkView → SinkView → List ℕ → List ℕ → List ℕ → Result T PrintError → Type 0
-IsPrinting old new held holds text result = MatchResult result (λ done. Prints old new held holds text) (λ error. IsCut old new held text error)
+IsPrinting old new held holds text result = MatchResult result (λ done. Prints old new held holds text) (λ error. IsCutOff old new held text error)
 
 -- a text fits into a piece with so much room: what it holds and the text are less than is given at a call
 pub record FitsPiece (room : ℕ) (held text : List ℕ) : Type 0 where
@@ -64,4 +64,4 @@ IsPushing room after held holds text result = MatchResult result (λ done. Pushe
 
 -- what giving a text a piece after the other results in: all of it was given, or a beginning
 abbrev pub IsGivingText : {T : Type 0} → SinkView → SinkView → List ℕ → Result T PrintError → Type 0
-IsGivingText old new text result = MatchResult result (λ done. Gave old new text) (λ error. IsCut old new [] text error)
+IsGivingText old new text result = MatchResult result (λ done. Gave old new text) (λ error. IsCutOff old new [] text error)

@@ -7,8 +7,8 @@ use Rattle.text_lexer.specs.declared.error.BadLine.{BadLine}
 use Rattle.trace_reader.specs.declared.trace.Trace.{Trace}
 use Rattle.text_lexer.specs.Causes.{◌>>=◌}
 use Rattle.text_lexer.specs.BadLines.{bad_line, lines_leave}
-use Rattle.trace_reader.specs.Grammar.{nothing, whole}
-use Rattle.trace_reader.specs.Lines.{SoFar, after_line}
+use Rattle.trace_reader.specs.Grammar.{nothing, whole_trace}
+use Rattle.trace_reader.specs.Lines.{SoFar, after_trace_line}
 use Rattle.text_lexer.specs.Lines.{input_limit, RawLine, is_newline, raw_lines}
 use Rattle.output.specs.declared.input.TheConstants.{TEXT_LIMIT}
 
@@ -29,12 +29,12 @@ mark_from begins (c ∷ bytes) = if begins && starts_with nat_eq (c ∷ bytes) m
 
 -- what a line of a trace does where none may fork
 unfoldable pub plain_line : SoFar → RawLine → Result SoFar Cause
-plain_line so_far line = after_line so_far line >>= λ next. if nat_eq (length next.children) 0 then Ok next else Err Child
+plain_line so_far line = after_trace_line so_far line >>= λ next. if nat_eq (length next.children) 0 then Ok next else Err Child
 
 -- the trace that bytes are where no line forks, or the first bad line and its cause
 unfoldable pub plain_trace_of : List ℕ → Result Trace BadLine
 plain_trace_of bytes = if nat_eq (length bytes) 0 then Err (bad_line 1 Header)
-    else whole (lines_leave plain_line nothing (raw_lines bytes))
+    else whole_trace (lines_leave plain_line nothing (raw_lines bytes))
 
 -- the number of the line that holds the byte at an offset
 unfoldable pub line_at : ℕ → List ℕ → ℕ

@@ -30,7 +30,7 @@ pub record IsRightText (trace : Trace) (items : List Item) (text : List ℕ) : T
   pub is : text ≡ items_text trace items ++ ending
 
 -- the first so many lines of a text are those of a right text
-pub record Fits (trace : Trace) (given : List ℕ) (count : ℕ) : Type 0 where
+pub record FitsSoFar (trace : Trace) (given : List ℕ) (count : ℕ) : Type 0 where
   pub items : List Item
   pub text : List ℕ
   pub right : IsRightText trace items text
@@ -43,20 +43,20 @@ pub record IsLegalText (trace : Trace) (given : List ℕ) : Type 0 where
   pub is : given ≡ output_text trace.config trace.lines items
 
 -- a text that is right as far as it goes, and is not legal, lacks the line behind its last
-pub record EndsEarly (trace : Trace) (given : List ℕ) (line : ℕ) : Type 0 where
-  pub fits : (count : ℕ) → Fits trace given count
+pub record TextEndsEarly (trace : Trace) (given : List ℕ) (line : ℕ) : Type 0 where
+  pub fits : (count : ℕ) → FitsSoFar trace given count
   pub short : ¬ IsLegalText trace given
   pub behind : line ≡ length (text_lines given) + 1
 
 -- the first bad line of a text: fewer lines are those of a right text, and so many are not, or the text ends early
-pub record IsFirstBad (trace : Trace) (given : List ℕ) (line : ℕ) : Type 0 where
-  pub before : (count : ℕ) → count < line → Fits trace given count
-  pub bad : (¬ Fits trace given line) ⊎ EndsEarly trace given line
+pub record IsFirstBadOutputLine (trace : Trace) (given : List ℕ) (line : ℕ) : Type 0 where
+  pub before : (count : ℕ) → count < line → FitsSoFar trace given count
+  pub bad : (¬ FitsSoFar trace given line) ⊎ TextEndsEarly trace given line
 
 -- a text is judged rightly
 abbrev pub IsJudged : Trace → List ℕ → Judgement → Type 0
 IsJudged trace given Legal = IsLegalText trace given
-IsJudged trace given (Bad line) = IsFirstBad trace given line
+IsJudged trace given (Bad line) = IsFirstBadOutputLine trace given line
 
 -- a judgement as a line of text
 unfoldable pub judgement_text : Judgement → List ℕ

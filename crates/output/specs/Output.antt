@@ -19,7 +19,7 @@ use Rattle.mm_types.specs.MapsText.{range_text, list_text}
 use Rattle.trace_reader.specs.declared.trace.Trace.{Trace}
 use Rattle.trace_reader.specs.Values.{child_of}
 use Rattle.area_rules.specs.Steps.{after}
-use Rattle.history.specs.Histories.{line_of, journal_of, serial_history}
+use Rattle.history.specs.Histories.{line_answered, journal_of, serial_history}
 
 -- the name of an error
 unfoldable pub errno_name : Errno → List ℕ
@@ -61,8 +61,8 @@ content_text files (contents.Fault page access verdict) = verdict_text verdict +
 content_text files (contents.List areas) = maps_text files areas
 
 -- what stands before it: `L<line> t<thread> v<version> = `
-unfoldable pub start_text : TraceLine → ℕ → List ℕ
-start_text line version = codes "L" ++ (decimal line.number
+unfoldable pub item_start : TraceLine → ℕ → List ℕ
+item_start line version = codes "L" ++ (decimal line.number
     ++ (codes " t" ++ (decimal line.thread ++ (codes " v" ++ (decimal version ++ codes " = ")))))
 
 -- the child that a line forked, and how many areas it begins with
@@ -78,12 +78,12 @@ result_text files (Some child) (contents.Fault page access verdict) = content_te
 
 -- an item, with the line that it answers
 abbrev pub item_text : List FileRow → TraceLine → Item → List ℕ
-item_text files line item = start_text line item.version ++ result_text files (child_of line.op) item.content
+item_text files line item = item_start line item.version ++ result_text files (child_of line.op) item.content
 
 -- what is told of the items after others, of each with the line that it answers
 abbrev pub told_by : {X : Type 0} → (TraceLine → Item → List X) → List TraceLine → List Item → List Item → List X
 told_by tell lines before [] = []
-told_by tell lines before (item ∷ items) = option_map_or (λ line. tell line item) (line_of lines before item) []
+told_by tell lines before (item ∷ items) = option_map_or (λ line. tell line item) (line_answered lines before item) []
     ++ told_by tell lines (before ++ item ∷ []) items
 
 -- the items of a history, and after them a list

@@ -4,7 +4,7 @@ ghost use Rattle.trace_reader.specs.declared.limits.TheConstants.{MOST_LINES};
 ghost use Rattle.trace_reader.specs.declared.trace.TraceLine.{TraceLine};
 ghost use Rattle.history.specs.declared.callers.TheConstants.{MOST_THREADS};
 ghost use Rattle.history.specs.declared.items.Item.{Item};
-ghost use Rattle.history.specs.Histories.{line_of};
+ghost use Rattle.history.specs.Histories.{line_answered};
 ghost use Rattle.output.specs.Answering.{AnswersNext, AreAnswered};
 
 use history::{Item, places_by_caller};
@@ -42,7 +42,7 @@ impl<'a> AnsweredLines<'a> {
     pub fn next(&mut self, item: &Item) -> &'a TraceLine
         requires { AnswersNext self.old item.now }
         ensures { (lines : List TraceLine) (before : List Item) → AreAnswered lines before self.old
-            → (line_of lines before item.now ≡ Some result.now) × AreAnswered lines (before ++ item.now ∷ []) self.new }
+            → (line_answered lines before item.now ≡ Some result.now) × AreAnswered lines (before ++ item.now ∷ []) self.new }
     {
         let lines = self.lines;
         let caller = item.caller as usize;

@@ -1,7 +1,7 @@
 //! What an address space answers to a line of a trace.
 ghost use Rattle.std.specs.Prelude.{◌≡◌, ◌+◌, ◌-◌, ◌^◌, ◌<◌, ◌≤◌, [], length};
 ghost use Rattle.history.specs.Histories.{answer_of, is_call, read_of, space_after};
-ghost use Rattle.output.specs.Internal.Printed.{shown};
+ghost use Rattle.output.specs.Internal.Printed.{content_of_answer};
 
 use history::made_call;
 use mm_types::{Access, Call, Page, Reply, Verdict};
@@ -23,7 +23,7 @@ pub(crate) enum Answer {
 impl Answer {
     /// Whether a call was made.
     pub(crate) fn is_call(&self) -> bool
-        ensures { result ≡ is_call (shown [] self.now) }
+        ensures { result ≡ is_call (content_of_answer [] self.now) }
     {
         match self {
             Answer::Called(_, _) => true,
@@ -42,7 +42,7 @@ pub(crate) fn area_count(space: &PlainSpace<'_>) -> usize
 /// What an address space answers to an operation, whose call is then made, if it makes one.
 pub(crate) fn run_op(space: &mut PlainSpace<'_>, op: Op) -> Answer
     requires room { space.old.space.objects < 2 ^ 32 - 1 }
-    ensures answer { shown space.new.space.areas result ≡ answer_of space.old.config space.old.space op }
+    ensures answer { content_of_answer space.new.space.areas result ≡ answer_of space.old.config space.old.space op }
     ensures space { space.new.space ≡ space_after space.old.config space.old.space op }
     ensures config { space.new.config ≡ space.old.config }
     ensures objects { space.new.space.objects ≤ space.old.space.objects + 1 }
@@ -55,7 +55,7 @@ pub(crate) fn run_op(space: &mut PlainSpace<'_>, op: Op) -> Answer
 
 /// What an operation reads over an address space, where it makes no call.
 fn read_by(space: &PlainSpace<'_>, op: Op) -> Answer
-    ensures { shown space.now.space.areas result ≡ read_of space.now.config space.now.space op }
+    ensures { content_of_answer space.now.space.areas result ≡ read_of space.now.config space.now.space op }
 {
     match op {
         Op::Fault { page, access } => Answer::Fault {

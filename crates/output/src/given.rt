@@ -6,8 +6,8 @@ ghost use Rattle.mm_types.specs.declared.files.FileRow.{FileRow};
 ghost use Rattle.text_lexer.specs.Numbers.{decimal_of};
 ghost use Rattle.trace_reader.specs.declared.trace.TraceLine.{TraceLine};
 ghost use Rattle.trace_reader.specs.Values.{child_of};
-ghost use Rattle.output.specs.Output.{maps_text, start_text, result_text};
-ghost use Rattle.output.specs.Internal.Printed.{first_text, more_text, shown, IsLine};
+ghost use Rattle.output.specs.Output.{maps_text, item_start, result_text};
+ghost use Rattle.output.specs.Internal.Printed.{first_text, more_text, content_of_answer, IsLine};
 ghost use Rattle.output.specs.Internal.Judging.{HasRead, IsBadAt, Shrinks, TellsNumber, end_told};
 
 use crate::answers::{Answer, area_count};
@@ -71,7 +71,7 @@ impl<'a> Given<'a> {
     /// The number that the next line tells, if it begins as an item does: a number between `L` and a space.
     pub(crate) fn number(&self) -> Option<u64>
         ensures printed { (line : TraceLine) (version : ℕ) (rest : List ℕ) → line.number < 2 ^ 64
-            → self.now.rest.now ≡ start_text line version ++ rest → result ≡ Some line.number }
+            → self.now.rest.now ≡ item_start line version ++ rest → result ≡ Some line.number }
         ensures told { IfSome result (TellsNumber self.now.rest.now) }
     {
         number_at(self.rest)
@@ -179,11 +179,11 @@ impl<'a> Given<'a> {
     ) -> Result<(), Stop>
         requires room { self.old.line + length self.old.rest.now < 2 ^ 64 - 1 }
         ensures ok { (text before : List ℕ) → HasRead text before self.old
-            → OnOk result (HasRead text (before ++ (start_text asked.now version
-            ++ result_text files.now (child_of asked.now.op) (shown space.now.space.areas answer.now))) self.new) }
+            → OnOk result (HasRead text (before ++ (item_start asked.now version
+            ++ result_text files.now (child_of asked.now.op) (content_of_answer space.now.space.areas answer.now))) self.new) }
         ensures bad { (text before : List ℕ) → HasRead text before self.old
-            → IfErr result (IsBadAt text (before ++ (start_text asked.now version
-            ++ result_text files.now (child_of asked.now.op) (shown space.now.space.areas answer.now)))) }
+            → IfErr result (IsBadAt text (before ++ (item_start asked.now version
+            ++ result_text files.now (child_of asked.now.op) (content_of_answer space.now.space.areas answer.now)))) }
         ensures shrinks { Shrinks self.old self.new }
         ensures shorter { OnOk result (length self.new.rest.now < length self.old.rest.now) }
         ensures later { OnOk result (self.old.line < self.new.line) }
@@ -203,7 +203,7 @@ impl<'a> Given<'a> {
 /// The number between `L` and a space with which a text begins, if it begins so.
 fn number_at(text: &[u8]) -> Option<u64>
     ensures printed { (line : TraceLine) (version : ℕ) (rest : List ℕ) → line.number < 2 ^ 64
-        → text.now ≡ start_text line version ++ rest → result ≡ Some line.number }
+        → text.now ≡ item_start line version ++ rest → result ≡ Some line.number }
     ensures told { IfSome result (TellsNumber text.now) }
 {
     let digits = text.strip_prefix(b"L")?;
@@ -225,7 +225,7 @@ fn decimal_of_bytes(word: &[u8]) -> Option<u64>
 /// Whether the lines of the areas stand behind the first line of an item: behind that of a list, unless it is what a child begins with.
 fn shows_areas(op: Op, answer: &Answer) -> bool
     ensures { (files : List FileRow) (areas : List Record)
-        → more_text files (child_of op) (shown areas answer.now) ≡ (if result then list_text files areas else []) }
+        → more_text files (child_of op) (content_of_answer areas answer.now) ≡ (if result then list_text files areas else []) }
 {
     match answer {
         Answer::List => match op {
@@ -239,7 +239,7 @@ fn shows_areas(op: Op, answer: &Answer) -> bool
 /// Appends the rest of an item's first line: what it results in, or how many areas there are.
 fn push_first(text: &mut Vec<u8>, op: Op, answer: &Answer, count: usize) -> Result<(), NoMemory>
     ensures { (areas : List Record) → length areas ≡ count
-        → OnOk result (text.new.items ≡ text.old.items ++ first_text (child_of op) (shown areas answer.now)) }
+        → OnOk result (text.new.items ≡ text.old.items ++ first_text (child_of op) (content_of_answer areas answer.now)) }
 {
     match (op, answer) {
         (Op::Fork { child }, Answer::List) => return push_forked(text, child, count),

@@ -4,7 +4,7 @@ ghost use Rattle.mm_types.specs.Config.{IsValidConfig};
 ghost use Rattle.trace_reader.specs.Values.{IsTraceValue};
 ghost use Rattle.history.specs.Parents.{parent_trace};
 ghost use Rattle.output.specs.Judgements.{IsJudged, IsLegalText};
-ghost use Rattle.output.specs.Internal.Judging.{IsEnded, IsLeft, IsToldRightly, IsWalked, NoneComes, TellsGoodItem, TheOneComes, judgement_of, trace_over};
+ghost use Rattle.output.specs.Internal.Judging.{IsEnded, IsLineLeft, IsStopRight, IsTextWalked, NoneComes, TellsGoodItem, TheOneComes, judgement_of, trace_over};
 
 use crate::answers::run_op;
 use crate::given::Given;
@@ -60,7 +60,7 @@ impl<'a> Walk<'a> {
         text: &'a [u8],
     ) -> Result<Walk<'a>, NoMemory>
         requires { IsValidConfig config.now }
-        ensures { IfOk result (IsWalked (trace_over config.now lines.now) text.now) }
+        ensures { IfOk result (IsTextWalked (trace_over config.now lines.now) text.now) }
     {
         Ok(Walk {
             progress: Progress::new(alloc, lines.items())?,
@@ -72,11 +72,11 @@ impl<'a> Walk<'a> {
 
     /// Compares the items that are left, the final list and the end.
     fn judge(&mut self, alloc: Global, config: &Config, lines: &SpaceLines<'_>) -> Result<(), Stop>
-        requires { (text : List ℕ) × IsWalked (trace_over config.now lines.now) text self.old }
-        ensures ok { (text : List ℕ) → IsWalked (trace_over config.now lines.now) text self.old
+        requires { (text : List ℕ) × IsTextWalked (trace_over config.now lines.now) text self.old }
+        ensures ok { (text : List ℕ) → IsTextWalked (trace_over config.now lines.now) text self.old
             → OnOk result (IsLegalText (trace_over config.now lines.now) text) }
-        ensures bad { (text : List ℕ) → IsWalked (trace_over config.now lines.now) text self.old
-            → IfErr result (IsToldRightly (trace_over config.now lines.now) text) }
+        ensures bad { (text : List ℕ) → IsTextWalked (trace_over config.now lines.now) text self.old
+            → IfErr result (IsStopRight (trace_over config.now lines.now) text) }
     {
         while self.progress.has_line_left() {
             self.item(alloc, config, lines)?;
@@ -87,14 +87,14 @@ impl<'a> Walk<'a> {
     /// Compares the next item, where a line of the trace is left. Memory is taken only where the text tells the line of an item that is
     /// good next.
     fn item(&mut self, alloc: Global, config: &Config, lines: &SpaceLines<'_>) -> Result<(), Stop>
-        requires walked { (text : List ℕ) × IsWalked (trace_over config.now lines.now) text self.old }
-        requires left { IsLeft lines.now self.old }
-        ensures ok { (text : List ℕ) → IsWalked (trace_over config.now lines.now) text self.old
-            → OnOk result (IsWalked (trace_over config.now lines.now) text self.new) }
-        ensures bad { (text : List ℕ) → IsWalked (trace_over config.now lines.now) text self.old
-            → IfErr result (IsToldRightly (trace_over config.now lines.now) text) }
+        requires walked { (text : List ℕ) × IsTextWalked (trace_over config.now lines.now) text self.old }
+        requires left { IsLineLeft lines.now self.old }
+        ensures ok { (text : List ℕ) → IsTextWalked (trace_over config.now lines.now) text self.old
+            → OnOk result (IsTextWalked (trace_over config.now lines.now) text self.new) }
+        ensures bad { (text : List ℕ) → IsTextWalked (trace_over config.now lines.now) text self.old
+            → IfErr result (IsStopRight (trace_over config.now lines.now) text) }
         ensures memory { IsErrOf result Stop.NoMemory
-            → (text : List ℕ) (walked : IsWalked (trace_over config.now lines.now) text self.old)
+            → (text : List ℕ) (walked : IsTextWalked (trace_over config.now lines.now) text self.old)
             → TellsGoodItem (trace_over config.now lines.now) walked.items self.old.given.rest.now }
         ensures shorter { OnOk result (length self.new.given.rest.now < length self.old.given.rest.now) }
     {
@@ -125,7 +125,7 @@ impl<'a> Walk<'a> {
 
     /// The line that the next item answers, as the text tells, with its caller: if it is the next of that caller.
     fn line_to_come(&self, config: &Config, lines: &SpaceLines<'_>) -> Option<(TraceLine, u32)>
-        ensures { (text : List ℕ) (walked : IsWalked (trace_over config.now lines.now) text self.now) → MatchOption result
+        ensures { (text : List ℕ) (walked : IsTextWalked (trace_over config.now lines.now) text self.now) → MatchOption result
             (NoneComes lines.now walked.items self.now.given.rest.now)
             (λ found. TheOneComes lines.now walked.items self.now.given.rest.now found.0 found.1) }
     {
@@ -135,12 +135,12 @@ impl<'a> Walk<'a> {
 
     /// Compares the final list, behind which nothing stands, where no line of the trace is left.
     fn end(&mut self, alloc: Global, config: &Config, lines: &SpaceLines<'_>) -> Result<(), Stop>
-        requires walked { (text : List ℕ) × IsWalked (trace_over config.now lines.now) text self.old }
+        requires walked { (text : List ℕ) × IsTextWalked (trace_over config.now lines.now) text self.old }
         requires ended { IsEnded lines.now self.old }
-        ensures ok { (text : List ℕ) → IsWalked (trace_over config.now lines.now) text self.old
+        ensures ok { (text : List ℕ) → IsTextWalked (trace_over config.now lines.now) text self.old
             → OnOk result (IsLegalText (trace_over config.now lines.now) text) }
-        ensures bad { (text : List ℕ) → IsWalked (trace_over config.now lines.now) text self.old
-            → IfErr result (IsToldRightly (trace_over config.now lines.now) text) }
+        ensures bad { (text : List ℕ) → IsTextWalked (trace_over config.now lines.now) text self.old
+            → IfErr result (IsStopRight (trace_over config.now lines.now) text) }
     {
         let listed = self
             .given

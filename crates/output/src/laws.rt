@@ -3,11 +3,11 @@ ghost use Rattle.std.specs.Prelude.{◌≡◌, ◌≤◌, ◌+◌, ℕ, List, le
 ghost use Rattle.trace_reader.specs.declared.trace.Trace.{Trace};
 ghost use Rattle.output.specs.Input.{CheckInput, check_limit, input_of};
 ghost use Rattle.output.specs.declared.input.TheConstants.{TEXT_LIMIT};
-ghost use Rattle.output.specs.Judgements.{IsLegalText, IsFirstBad};
+ghost use Rattle.output.specs.Judgements.{IsLegalText, IsFirstBadOutputLine};
 
 /// A text with a first bad line is not legal, so `judge_output` says `Legal` of exactly the legal texts.
 pub fn first_bad_is_not_legal()
-    ensures { (trace : Trace) (given : List ℕ) (line : ℕ) → IsFirstBad trace given line → IsLegalText trace given → ⊥ }
+    ensures { (trace : Trace) (given : List ℕ) (line : ℕ) → IsFirstBadOutputLine trace given line → IsLegalText trace given → ⊥ }
 {}
 
 /// One byte more than the limit settles which input bytes are, or which line is bad first.

@@ -1,6 +1,6 @@
 //! The text of what a line results in, and of what stands before a list. A text that has room for what is appended takes no memory.
 ghost use Rattle.std.specs.Prelude.{◌≡◌, ◌≤◌, ◌<◌, ◌+◌, ◌++◌, OnErr, OnOk, codes, decimal, length, vec_capacity, vec_len};
-ghost use Rattle.output.specs.Output.{errno_name, reply_text, served_text, verdict_text, start_text};
+ghost use Rattle.output.specs.Output.{errno_name, reply_text, served_text, verdict_text, item_start};
 
 use maps_print::{push_decimal, push_hex, push_range};
 use mm_types::{Errno, NoMemory, Record, Reply, Verdict};
@@ -45,10 +45,10 @@ fn push_page(text: &mut Vec<u8>, index: u64) -> Result<(), NoMemory>
 }
 
 /// Appends what stands before what a line results in: `L<line> t<thread> v<version> = `.
-#[tactic(auto, unfolding(crate::specs::Output::start_text))]
+#[tactic(auto, unfolding(crate::specs::Output::item_start))]
 pub fn push_start(text: &mut Vec<u8>, line: &TraceLine, version: u64) -> Result<(), NoMemory>
-    ensures ok { OnOk result (text.new.items ≡ text.old.items ++ start_text line.now version) }
-    ensures room { OnErr result (vec_capacity text.old < vec_len text.old + length (start_text line.now version)) }
+    ensures ok { OnOk result (text.new.items ≡ text.old.items ++ item_start line.now version) }
+    ensures room { OnErr result (vec_capacity text.old < vec_len text.old + length (item_start line.now version)) }
     ensures capacity { vec_capacity text.old ≤ vec_capacity text.new }
 {
     text.push(b'L')?;

@@ -7,9 +7,9 @@ use Rattle.area_rules.specs.Tables.{AddressSpace}
 use Rattle.area_rules.specs.Steps.{step}
 
 -- the address space after calls
-unfoldable pub space_after : Config → AddressSpace → List Call → AddressSpace
-space_after config space [] = space
-space_after config space (call ∷ calls) = space_after config (step config space call).space calls
+unfoldable pub space_after_calls : Config → AddressSpace → List Call → AddressSpace
+space_after_calls config space [] = space
+space_after_calls config space (call ∷ calls) = space_after_calls config (step config space call).space calls
 
 -- the answer of each call, after those before it
 unfoldable pub replies_of : Config → AddressSpace → List Call → List Reply

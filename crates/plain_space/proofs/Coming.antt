@@ -5,7 +5,7 @@ use Rattle.std.proofs.lemmas.Bool.{ltb-true, ltb-false}
 use Rattle.std.proofs.lemmas.List.Sums.{prefix_len_passes, prefix_len_stops, prefix_len-le-length}
 use Rattle.std.proofs.lemmas.List.Sorted.{IsNonDecreasingBy-insert}
 use Rattle.mm_types.specs.declared.area.Record.{Record}
-use Rattle.split_merge.specs.Internal.Sorted.{begins_below, BeginsRise}
+use Rattle.split_merge.specs.Sorted.{begins_below, BeginsRise}
 
 -- the list stays in order
 pub insert_rises : (areas : List Record) (new : Record) → BeginsRise areas → BeginsRise (insert areas (begins_below new.span.lo areas) new)

@@ -7,7 +7,7 @@ use Rattle.mm_types.specs.declared.area.Record.{Record}
 use Rattle.area_list.specs.Changes.{insert_area}
 use Rattle.area_list.proofs.Elements.{Each-append, Each-left, Each-right}
 use Rattle.split_merge.proofs.Counting.{length-with_all}
-use Rattle.plain_space.specs.Internal.Chunks.{areas_of, IsFilled, AreOthersFilled}
+use Rattle.plain_space.specs.Internal.Chunks.{areas_in_chunks, IsFilled, AreOthersFilled}
 use Rattle.plain_space.proofs.Parting.{areas_of-append, parts_at, areas_at, areas_set}
 
 each_filled : (chunks : List (List Record)) (place : ℕ) → place < length chunks → All IsFilled chunks
@@ -34,11 +34,11 @@ divided_parts chunks place lower upper within =
 
 -- have its areas
 pub divided_areas : (chunks : List (List Record)) (place : ℕ) (lower upper : List Record) → place < length chunks → lower ++ upper ≡ get_or chunks place []
-    → areas_of (insert (set chunks place lower) (place + 1) upper) ≡ areas_of chunks
+    → areas_in_chunks (insert (set chunks place lower) (place + 1) upper) ≡ areas_in_chunks chunks
 divided_areas chunks place lower upper within whole =
-    let front = areas_of (take place chunks) in
-    let back = areas_of (drop (place + 1) chunks) in
-    ap areas_of (divided_parts chunks place lower upper within)
+    let front = areas_in_chunks (take place chunks) in
+    let back = areas_in_chunks (drop (place + 1) chunks) in
+    ap areas_in_chunks (divided_parts chunks place lower upper within)
     ∙ areas_of-append (take place chunks) (lower ∷ (upper ∷ drop (place + 1) chunks))
     ∙ ap (λ rest. front ++ rest) (sym (append_assoc lower upper back) ∙ ap (λ chunk. chunk ++ back) whole)
     ∙ sym (areas_at chunks place within)
@@ -70,10 +70,10 @@ upper_filled chunk half is large most = let upper = length-drop half chunk in (o
 
 -- no chunk more, where the one at a place is empty
 pub emptied_areas : (chunks : List (List Record)) (place : ℕ) → place < length chunks → length (get_or chunks place []) ≤ 0
-    → areas_of (take place chunks ++ drop (place + 1) chunks) ≡ areas_of chunks
+    → areas_in_chunks (take place chunks ++ drop (place + 1) chunks) ≡ areas_in_chunks chunks
 emptied_areas chunks place within empty =
-    let front = areas_of (take place chunks) in
-    let back = areas_of (drop (place + 1) chunks) in
+    let front = areas_in_chunks (take place chunks) in
+    let back = areas_in_chunks (drop (place + 1) chunks) in
     areas_of-append (take place chunks) (drop (place + 1) chunks)
     ∙ sym (areas_at chunks place within ∙ ap (λ chunk. front ++ (chunk ++ back)) (nothing (get_or chunks place []) empty))
   where
@@ -86,11 +86,11 @@ pub one_longer : (new : Record) (areas : List Record) → length (insert_area ne
 one_longer new areas = length-with_all (new ∷ []) areas
 
 pub one_longer_at : (chunks : List (List Record)) (place : ℕ) (new : Record) → place < length chunks
-    → length (areas_of (set chunks place (insert_area new (get_or chunks place [])))) ≡ length (areas_of chunks) + 1
+    → length (areas_in_chunks (set chunks place (insert_area new (get_or chunks place [])))) ≡ length (areas_in_chunks chunks) + 1
 one_longer_at chunks place new within =
-    let front = areas_of (take place chunks) in
+    let front = areas_in_chunks (take place chunks) in
     let chunk = get_or chunks place [] in
-    let back = areas_of (drop (place + 1) chunks) in
+    let back = areas_in_chunks (drop (place + 1) chunks) in
     omega (
       arith,
       ap length (areas_set chunks place (insert_area new chunk) within),

@@ -13,8 +13,8 @@ use Rattle.area_list.proofs.Order.{Before}
 use Rattle.split_merge.specs.Finding.{first_from, last_before}
 use Rattle.split_merge.proofs.Ascending.{Below, ascending}
 use Rattle.split_merge.proofs.Walking.{in_order, filter_none}
-use Rattle.split_merge.specs.Internal.Sorted.{begins_below, ends_by, BeginsAscend, EndsAscend}
-use Rattle.plain_space.specs.Internal.Chunks.{areas_of, IsFilled, AreApart}
+use Rattle.split_merge.specs.Sorted.{begins_below, ends_by, BeginsAscend, EndsAscend}
+use Rattle.plain_space.specs.Internal.Chunks.{areas_in_chunks, IsFilled, AscendApart}
 
 pub AllPairs-from_Pairs : {A : Type 0} (R : A → A → Type 0) (xs : List A) → Pairs R xs → AllPairs R xs
 AllPairs-from_Pairs R [] pairs = λ i j d before within. absurd (omega arith)
@@ -68,9 +68,9 @@ pub before_is : (end : ℕ) (areas : List Record) (page : ℕ) → IsCanonical e
 before_is end areas page c = ap (last_or None) (front_is areas page (ascending end areas c))
 
 -- chunks that are filled, of a canonical list
-pub apart : (end : ℕ) (chunks : List (List Record)) → All IsFilled chunks → IsCanonical end (areas_of chunks) → AreApart chunks
+pub apart : (end : ℕ) (chunks : List (List Record)) → All IsFilled chunks → IsCanonical end (areas_in_chunks chunks) → AscendApart chunks
 apart end chunks filled c = record {
   some = λ k d within. (filled k d within).0;
-  begins = begins_ascend end (areas_of chunks) c;
-  ends = ends_ascend end (areas_of chunks) c;
+  begins = begins_ascend end (areas_in_chunks chunks) c;
+  ends = ends_ascend end (areas_in_chunks chunks) c;
 }

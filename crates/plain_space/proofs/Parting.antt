@@ -10,12 +10,12 @@ use Rattle.mm_types.specs.declared.area.Record.{Record}
 use Rattle.area_list.specs.Areas.{OfFirst}
 use Rattle.area_list.proofs.Elements.{Pairs, Each-append, Each-left, Each-right, Each-weaker}
 use Rattle.split_merge.proofs.Lists.{Pairs-right, Pairs-across}
-use Rattle.plain_space.specs.Internal.Chunks.{areas_of, low_of, high_of, IsSome}
+use Rattle.plain_space.specs.Internal.Chunks.{areas_in_chunks, chunk_low, chunk_high, IsSome}
 use Rattle.plain_space.proofs.InOrder.{AllPairs-from_Pairs}
 
-pub areas_of-append : (xs ys : List (List Record)) → areas_of (xs ++ ys) ≡ areas_of xs ++ areas_of ys
+pub areas_of-append : (xs ys : List (List Record)) → areas_in_chunks (xs ++ ys) ≡ areas_in_chunks xs ++ areas_in_chunks ys
 areas_of-append [] ys = refl
-areas_of-append (x ∷ xs) ys = ap (λ rest. x ++ rest) (areas_of-append xs ys) ∙ sym (append_assoc x (areas_of xs) (areas_of ys))
+areas_of-append (x ∷ xs) ys = ap (λ rest. x ++ rest) (areas_of-append xs ys) ∙ sym (append_assoc x (areas_in_chunks xs) (areas_in_chunks ys))
 
 -- the chunk at a place, between those before and after it
 pub parts_at : (chunks : List (List Record)) (place : ℕ) → place < length chunks
@@ -23,8 +23,8 @@ pub parts_at : (chunks : List (List Record)) (place : ℕ) → place < length ch
 parts_at chunks place within = sym (take-append-drop place chunks) ∙ ap (λ rest. take place chunks ++ rest) (drop_more chunks place [] within)
 
 pub areas_at : (chunks : List (List Record)) (place : ℕ) → place < length chunks
-    → areas_of chunks ≡ areas_of (take place chunks) ++ (get_or chunks place [] ++ areas_of (drop (place + 1) chunks))
-areas_at chunks place within = ap areas_of (parts_at chunks place within)
+    → areas_in_chunks chunks ≡ areas_in_chunks (take place chunks) ++ (get_or chunks place [] ++ areas_in_chunks (drop (place + 1) chunks))
+areas_at chunks place within = ap areas_in_chunks (parts_at chunks place within)
     ∙ areas_of-append (take place chunks) (get_or chunks place [] ∷ drop (place + 1) chunks)
 
 -- and another in its place
@@ -35,8 +35,8 @@ parts_set chunks place chunk within = sym (take-append-drop place (set chunks pl
     ∙ ap (λ rest. take place chunks ++ rest) (drop-set chunks place chunk within)
 
 pub areas_set : (chunks : List (List Record)) (place : ℕ) (chunk : List Record) → place < length chunks
-    → areas_of (set chunks place chunk) ≡ areas_of (take place chunks) ++ (chunk ++ areas_of (drop (place + 1) chunks))
-areas_set chunks place chunk within = ap areas_of (parts_set chunks place chunk within)
+    → areas_in_chunks (set chunks place chunk) ≡ areas_in_chunks (take place chunks) ++ (chunk ++ areas_in_chunks (drop (place + 1) chunks))
+areas_set chunks place chunk within = ap areas_in_chunks (parts_set chunks place chunk within)
     ∙ areas_of-append (take place chunks) (chunk ∷ drop (place + 1) chunks)
 
 -- a list that does not fall, by recursion, and back
@@ -65,49 +65,49 @@ NotAbove a b = a.span.lo ≤ b.span.lo
 abbrev pub EndsNotAbove : Record → Record → Type 0
 EndsNotAbove a b = a.span.hi ≤ b.span.hi
 
-each_low : (n : ℕ) (chunks : List (List Record)) → Each IsSome chunks → Each (λ a. n ≤ a.span.lo) (areas_of chunks) → Each (λ chunk. n ≤ low_of chunk) chunks
+each_low : (n : ℕ) (chunks : List (List Record)) → Each IsSome chunks → Each (λ a. n ≤ a.span.lo) (areas_in_chunks chunks) → Each (λ chunk. n ≤ chunk_low chunk) chunks
 each_low n [] some each = tt
 each_low n ([] ∷ chunks) some each = absurd (omega (arith, some.0))
-each_low n ((area ∷ areas) ∷ chunks) some each = (each.0, each_low n chunks some.1 (Each-right (λ a. n ≤ a.span.lo) (area ∷ areas) (areas_of chunks) each))
+each_low n ((area ∷ areas) ∷ chunks) some each = (each.0, each_low n chunks some.1 (Each-right (λ a. n ≤ a.span.lo) (area ∷ areas) (areas_in_chunks chunks) each))
 
 -- chunks lie by ascending lowest page where their areas do
-pub lows_rise : (chunks : List (List Record)) → Each IsSome chunks → Pairs NotAbove (areas_of chunks) → Pairs (λ a b. low_of a ≤ low_of b) chunks
+pub lows_rise : (chunks : List (List Record)) → Each IsSome chunks → Pairs NotAbove (areas_in_chunks chunks) → Pairs (λ a b. chunk_low a ≤ chunk_low b) chunks
 lows_rise [] some pairs = tt
 lows_rise ([] ∷ chunks) some pairs = absurd (omega (arith, some.0))
 lows_rise ((area ∷ areas) ∷ chunks) some pairs = (
-  each_low area.span.lo chunks some.1 (Each-right (NotAbove area) areas (areas_of chunks) pairs.0),
-  lows_rise chunks some.1 (Pairs-right NotAbove (area ∷ areas) (areas_of chunks) pairs),
+  each_low area.span.lo chunks some.1 (Each-right (NotAbove area) areas (areas_in_chunks chunks) pairs.0),
+  lows_rise chunks some.1 (Pairs-right NotAbove (area ∷ areas) (areas_in_chunks chunks) pairs),
 )
 
 -- what holds of the end of each area of a chunk holds of its end
-pub each_high_of : (Q : ℕ → Type 0) (chunk : List Record) → 0 < length chunk → Each (λ a. Q a.span.hi) chunk → Q (high_of chunk)
+pub each_high_of : (Q : ℕ → Type 0) (chunk : List Record) → 0 < length chunk → Each (λ a. Q a.span.hi) chunk → Q (chunk_high chunk)
 each_high_of Q [] some each = absurd (omega (arith, some))
 each_high_of Q (a ∷ []) some each = each.0
 each_high_of Q (a ∷ (b ∷ rest)) some each = each_high_of Q (b ∷ rest) (omega arith) each.1
 
-each_high : (n : ℕ) (chunks : List (List Record)) → Each IsSome chunks → Each (λ a. n ≤ a.span.hi) (areas_of chunks) → Each (λ chunk. n ≤ high_of chunk) chunks
+each_high : (n : ℕ) (chunks : List (List Record)) → Each IsSome chunks → Each (λ a. n ≤ a.span.hi) (areas_in_chunks chunks) → Each (λ chunk. n ≤ chunk_high chunk) chunks
 each_high n [] some each = tt
 each_high n (chunk ∷ chunks) some each = (
-  each_high_of (λ h. n ≤ h) chunk some.0 (Each-left (λ a. n ≤ a.span.hi) chunk (areas_of chunks) each),
-  each_high n chunks some.1 (Each-right (λ a. n ≤ a.span.hi) chunk (areas_of chunks) each),
+  each_high_of (λ h. n ≤ h) chunk some.0 (Each-left (λ a. n ≤ a.span.hi) chunk (areas_in_chunks chunks) each),
+  each_high n chunks some.1 (Each-right (λ a. n ≤ a.span.hi) chunk (areas_in_chunks chunks) each),
 )
 
 -- and by ascending end
-pub highs_rise : (chunks : List (List Record)) → Each IsSome chunks → Pairs EndsNotAbove (areas_of chunks) → Pairs (λ a b. high_of a ≤ high_of b) chunks
+pub highs_rise : (chunks : List (List Record)) → Each IsSome chunks → Pairs EndsNotAbove (areas_in_chunks chunks) → Pairs (λ a b. chunk_high a ≤ chunk_high b) chunks
 highs_rise [] some pairs = tt
 highs_rise (chunk ∷ chunks) some pairs = (
-  each_high (high_of chunk) chunks some.1
-      (each_high_of (λ h. Each (λ b. h ≤ b.span.hi) (areas_of chunks)) chunk some.0 (Pairs-across EndsNotAbove chunk (areas_of chunks) pairs)),
-  highs_rise chunks some.1 (Pairs-right EndsNotAbove chunk (areas_of chunks) pairs),
+  each_high (chunk_high chunk) chunks some.1
+      (each_high_of (λ h. Each (λ b. h ≤ b.span.hi) (areas_in_chunks chunks)) chunk some.0 (Pairs-across EndsNotAbove chunk (areas_in_chunks chunks) pairs)),
+  highs_rise chunks some.1 (Pairs-right EndsNotAbove chunk (areas_in_chunks chunks) pairs),
 )
 
 -- no area of a chunk ends above its end, and none begins below its beginning
-pub below_high : (chunk : List Record) → Pairs EndsNotAbove chunk → Each (λ a. a.span.hi ≤ high_of chunk) chunk
+pub below_high : (chunk : List Record) → Pairs EndsNotAbove chunk → Each (λ a. a.span.hi ≤ chunk_high chunk) chunk
 below_high [] pairs = tt
 below_high (a ∷ []) pairs = (omega arith, tt)
 below_high (a ∷ (b ∷ rest)) pairs = (each_high_of (λ h. a.span.hi ≤ h) (b ∷ rest) (omega arith) pairs.0, below_high (b ∷ rest) pairs.1)
 
-pub above_low : (chunk : List Record) → Pairs NotAbove chunk → Each (λ a. low_of chunk ≤ a.span.lo) chunk
+pub above_low : (chunk : List Record) → Pairs NotAbove chunk → Each (λ a. chunk_low chunk ≤ a.span.lo) chunk
 above_low [] pairs = tt
 above_low (a ∷ rest) pairs = (omega arith, pairs.0)
 
@@ -132,41 +132,41 @@ back_stops test (x ∷ xs) = by (test x) refl (back_stops test xs)
 
 -- where a chunk begins below a page, so does each area before it
 pub front_below : (gap page : ℕ) (front chunk back : List Record) → 0 < length chunk → Pairs (λ a b. a.span.lo + gap ≤ b.span.lo) (front ++ (chunk ++ back))
-    → low_of chunk < page + gap → Each (λ a. a.span.lo < page) front
+    → chunk_low chunk < page + gap → Each (λ a. a.span.lo < page) front
 front_below gap page front [] back some pairs low = absurd (omega (arith, some))
 front_below gap page front (area ∷ areas) back some pairs low =
     Each-weaker (λ a. Each (λ b. a.span.lo + gap ≤ b.span.lo) (area ∷ (areas ++ back))) (λ a. a.span.lo < page) (λ a each. omega (arith, each.0, low)) front
     (Pairs-across (λ a b. a.span.lo + gap ≤ b.span.lo) front (area ∷ (areas ++ back)) pairs)
 
 -- where the first of some chunks does not begin below a page, no area of them does
-pub back_from : (page : ℕ) (chunks : List (List Record)) → Each IsSome chunks → Pairs NotAbove (areas_of chunks) → OfFirst (λ chunk. page ≤ low_of chunk) chunks
-    → Each (λ a. page ≤ a.span.lo) (areas_of chunks)
+pub back_from : (page : ℕ) (chunks : List (List Record)) → Each IsSome chunks → Pairs NotAbove (areas_in_chunks chunks) → OfFirst (λ chunk. page ≤ chunk_low chunk) chunks
+    → Each (λ a. page ≤ a.span.lo) (areas_in_chunks chunks)
 back_from page [] some pairs low = tt
 back_from page ([] ∷ chunks) some pairs low = absurd (omega (arith, some.0))
 back_from page ((area ∷ areas) ∷ chunks) some pairs low =
-    (low, Each-weaker (NotAbove area) (λ a. page ≤ a.span.lo) (λ a above. omega (arith, above, low)) (areas ++ areas_of chunks) pairs.0)
+    (low, Each-weaker (NotAbove area) (λ a. page ≤ a.span.lo) (λ a above. omega (arith, above, low)) (areas ++ areas_in_chunks chunks) pairs.0)
 
 -- where each of some chunks ends by a page, so does each area of them
-pub front_ends : (page : ℕ) (chunks : List (List Record)) → Pairs EndsNotAbove (areas_of chunks) → Each (λ chunk. high_of chunk ≤ page) chunks
-    → Each (λ a. a.span.hi ≤ page) (areas_of chunks)
+pub front_ends : (page : ℕ) (chunks : List (List Record)) → Pairs EndsNotAbove (areas_in_chunks chunks) → Each (λ chunk. chunk_high chunk ≤ page) chunks
+    → Each (λ a. a.span.hi ≤ page) (areas_in_chunks chunks)
 front_ends page [] pairs each = tt
-front_ends page (chunk ∷ chunks) pairs each = Each-append (λ a. a.span.hi ≤ page) chunk (areas_of chunks)
-    (Each-weaker (λ a. a.span.hi ≤ high_of chunk) (λ a. a.span.hi ≤ page) (λ a below. omega (arith, below, each.0)) chunk
-    (below_high chunk (Pairs-left EndsNotAbove chunk (areas_of chunks) pairs)))
-    (front_ends page chunks (Pairs-right EndsNotAbove chunk (areas_of chunks) pairs) each.1)
+front_ends page (chunk ∷ chunks) pairs each = Each-append (λ a. a.span.hi ≤ page) chunk (areas_in_chunks chunks)
+    (Each-weaker (λ a. a.span.hi ≤ chunk_high chunk) (λ a. a.span.hi ≤ page) (λ a below. omega (arith, below, each.0)) chunk
+    (below_high chunk (Pairs-left EndsNotAbove chunk (areas_in_chunks chunks) pairs)))
+    (front_ends page chunks (Pairs-right EndsNotAbove chunk (areas_in_chunks chunks) pairs) each.1)
 
 -- the areas of the chunks so far, and of one more
 pub areas_more : (chunks : List (List Record)) (place : ℕ) → place < length chunks
-    → areas_of (take (place + 1) chunks) ≡ areas_of (take place chunks) ++ get_or chunks place []
-areas_more chunks place within = ap areas_of (take_more chunks place [] within)
+    → areas_in_chunks (take (place + 1) chunks) ≡ areas_in_chunks (take place chunks) ++ get_or chunks place []
+areas_more chunks place within = ap areas_in_chunks (take_more chunks place [] within)
     ∙ areas_of-append (take place chunks) (get_or chunks place [] ∷ [])
-    ∙ ap (λ rest. areas_of (take place chunks) ++ rest) (append-nil (get_or chunks place []))
+    ∙ ap (λ rest. areas_in_chunks (take place chunks) ++ rest) (append-nil (get_or chunks place []))
 
 -- they are no more than all
 pub areas_within : (chunks : List (List Record)) (place : ℕ) → place < length chunks
-    → length (areas_of (take place chunks)) + length (get_or chunks place []) ≤ length (areas_of chunks)
+    → length (areas_in_chunks (take place chunks)) + length (get_or chunks place []) ≤ length (areas_in_chunks chunks)
 areas_within chunks place within =
-    let front = areas_of (take place chunks) in
+    let front = areas_in_chunks (take place chunks) in
     let chunk = get_or chunks place [] in
-    let back = areas_of (drop (place + 1) chunks) in
+    let back = areas_in_chunks (drop (place + 1) chunks) in
     omega (arith, ap length (areas_at chunks place within), length-append front (chunk ++ back), length-append chunk back)

@@ -9,7 +9,7 @@ use Rattle.area_list.specs.Changes.{insert_area}
 use Rattle.area_list.proofs.Elements.{Each-weaker}
 use Rattle.split_merge.specs.Plans.{starts_alike, without}
 use Rattle.split_merge.proofs.Lists.{filter_all}
-use Rattle.split_merge.specs.Internal.Sorted.{BeginsRise, BeginsAscend}
+use Rattle.split_merge.specs.Sorted.{BeginsRise, BeginsAscend}
 
 pub rise_from_ascend : (areas : List Record) → BeginsAscend areas → BeginsRise areas
 rise_from_ascend areas ascend i j d order within = elim (cases_eq i j) [

@@ -16,7 +16,7 @@ use Rattle.area_rules.specs.Placement.{is_free, highest_below, low_place}
 use Rattle.area_rules.proofs.Placing.{low_found, low_none}
 use Rattle.split_merge.proofs.Ascending.{Below}
 use Rattle.split_merge.proofs.Lists.{Pairs-right, Pairs-across}
-use Rattle.plain_space.specs.Internal.Chunks.{areas_of, AreApart}
+use Rattle.plain_space.specs.Internal.Chunks.{areas_in_chunks, AscendApart}
 use Rattle.plain_space.specs.Internal.Gaps.{HasRoomBelow, HasRoomAbove}
 use Rattle.plain_space.proofs.Among.{EndsBelow, ends_below}
 use Rattle.split_merge.proofs.Going.{ascending_pairs}
@@ -57,91 +57,91 @@ middle_false : (a b c : Bool) → b ≡ false → (a && (b && c)) ≡ false
 middle_false true b c is = first_false b c is
 middle_false false b c is = refl
 
-free_parts : (chunks : List (List Record)) (place pages start : ℕ) → place < length chunks → is_free (areas_of chunks) pages start
-    ≡ (is_free (areas_of (take place chunks)) pages start && (is_free (get_or chunks place []) pages start && is_free (areas_of (drop (place + 1) chunks)) pages start))
+free_parts : (chunks : List (List Record)) (place pages start : ℕ) → place < length chunks → is_free (areas_in_chunks chunks) pages start
+    ≡ (is_free (areas_in_chunks (take place chunks)) pages start && (is_free (get_or chunks place []) pages start && is_free (areas_in_chunks (drop (place + 1) chunks)) pages start))
 free_parts chunks place pages start within =
-    let front = areas_of (take place chunks) in
+    let front = areas_in_chunks (take place chunks) in
     let chunk = get_or chunks place [] in
-    let back = areas_of (drop (place + 1) chunks) in
+    let back = areas_in_chunks (drop (place + 1) chunks) in
     ap (λ list. is_free list pages start) (areas_at chunks place within)
     ∙ is_free-append front (chunk ++ back) pages start
     ∙ ap (λ rest. is_free front pages start && rest) (is_free-append chunk back pages start)
 
 -- where a chunk has one of the pages they are not free
 pub taken_at : (chunks : List (List Record)) (place pages start : ℕ) → place < length chunks → is_free (get_or chunks place []) pages start ≡ false
-    → is_free (areas_of chunks) pages start ≡ false
+    → is_free (areas_in_chunks chunks) pages start ≡ false
 taken_at chunks place pages start within taken = free_parts chunks place pages start within
-    ∙ middle_false (is_free (areas_of (take place chunks)) pages start) (is_free (get_or chunks place []) pages start)
-    (is_free (areas_of (drop (place + 1) chunks)) pages start) taken
+    ∙ middle_false (is_free (areas_in_chunks (take place chunks)) pages start) (is_free (get_or chunks place []) pages start)
+    (is_free (areas_in_chunks (drop (place + 1) chunks)) pages start) taken
 
-free_at : (chunks : List (List Record)) (place pages start : ℕ) → place < length chunks → is_free (areas_of (take place chunks)) pages start ≡ true
-    → is_free (get_or chunks place []) pages start ≡ true → is_free (areas_of (drop (place + 1) chunks)) pages start ≡ true
-    → is_free (areas_of chunks) pages start ≡ true
+free_at : (chunks : List (List Record)) (place pages start : ℕ) → place < length chunks → is_free (areas_in_chunks (take place chunks)) pages start ≡ true
+    → is_free (get_or chunks place []) pages start ≡ true → is_free (areas_in_chunks (drop (place + 1) chunks)) pages start ≡ true
+    → is_free (areas_in_chunks chunks) pages start ≡ true
 free_at chunks place pages start within front here back = free_parts chunks place pages start within
-    ∙ three_true (is_free (areas_of (take place chunks)) pages start) (is_free (get_or chunks place []) pages start)
-    (is_free (areas_of (drop (place + 1) chunks)) pages start) front here back
+    ∙ three_true (is_free (areas_in_chunks (take place chunks)) pages start) (is_free (get_or chunks place []) pages start)
+    (is_free (areas_in_chunks (drop (place + 1) chunks)) pages start) front here back
 
 -- each area of a chunk ends above those before it, and begins below those after it
-front_ends : (chunks : List (List Record)) (place : ℕ) (area : Record) → AreApart chunks → place < length chunks → Contains (get_or chunks place []) area
-    → Each (λ a. a.span.hi < area.span.hi) (areas_of (take place chunks))
+front_ends : (chunks : List (List Record)) (place : ℕ) (area : Record) → AscendApart chunks → place < length chunks → Contains (get_or chunks place []) area
+    → Each (λ a. a.span.hi < area.span.hi) (areas_in_chunks (take place chunks))
 front_ends chunks place area a within member =
-    let front = areas_of (take place chunks) in
+    let front = areas_in_chunks (take place chunks) in
     let chunk = get_or chunks place [] in
-    let back = areas_of (drop (place + 1) chunks) in
+    let back = areas_in_chunks (drop (place + 1) chunks) in
     Each-weaker (λ x. Each (EndsBelow x) (chunk ++ back)) (λ x. x.span.hi < area.span.hi)
     (λ x each. All-contains (EndsBelow x) chunk area (All-from_recursion (EndsBelow x) chunk (Each-left (EndsBelow x) chunk back each)) member) front
     (Pairs-across EndsBelow front (chunk ++ back) (pairs_at EndsBelow chunks place within (ends_below chunks a)))
 
-back_begins : (chunks : List (List Record)) (place : ℕ) (area : Record) → AreApart chunks → place < length chunks → Contains (get_or chunks place []) area
-    → Each (λ a. area.span.lo < a.span.lo) (areas_of (drop (place + 1) chunks))
+back_begins : (chunks : List (List Record)) (place : ℕ) (area : Record) → AscendApart chunks → place < length chunks → Contains (get_or chunks place []) area
+    → Each (λ a. area.span.lo < a.span.lo) (areas_in_chunks (drop (place + 1) chunks))
 back_begins chunks place area a within member =
-    let front = areas_of (take place chunks) in
+    let front = areas_in_chunks (take place chunks) in
     let chunk = get_or chunks place [] in
-    let back = areas_of (drop (place + 1) chunks) in
+    let back = areas_in_chunks (drop (place + 1) chunks) in
     All-contains (λ x. Each (Below x) back) chunk area (All-from_recursion (λ x. Each (Below x) back) chunk
-    (Pairs-across Below chunk back (Pairs-right Below front (chunk ++ back) (pairs_at Below chunks place within (ascending_pairs (areas_of chunks) a.begins))))) member
+    (Pairs-across Below chunk back (Pairs-right Below front (chunk ++ back) (pairs_at Below chunks place within (ascending_pairs (areas_in_chunks chunks) a.begins))))) member
 
 -- room below a page that one chunk has, and those after it leave
-pub room_below : (chunks : List (List Record)) (place pages page : ℕ) → AreApart chunks → place < length chunks → HasRoomBelow (get_or chunks place []) page pages
-    → Each (λ a. page ≤ a.span.lo) (areas_of (drop (place + 1) chunks)) → is_free (areas_of chunks) pages (page - pages) ≡ true
+pub room_below : (chunks : List (List Record)) (place pages page : ℕ) → AscendApart chunks → place < length chunks → HasRoomBelow (get_or chunks place []) page pages
+    → Each (λ a. page ≤ a.span.lo) (areas_in_chunks (drop (place + 1) chunks)) → is_free (areas_in_chunks chunks) pages (page - pages) ≡ true
 room_below chunks place pages page a within room above =
     free_at chunks place pages (page - pages) within
-    (free_above (areas_of (take place chunks)) pages (page - pages)
-    (Each-weaker (λ x. x.span.hi < room.lower.span.hi) (λ x. x.span.hi ≤ page - pages) (λ x below. omega (arith, below, room.ends)) (areas_of (take place chunks))
+    (free_above (areas_in_chunks (take place chunks)) pages (page - pages)
+    (Each-weaker (λ x. x.span.hi < room.lower.span.hi) (λ x. x.span.hi ≤ page - pages) (λ x below. omega (arith, below, room.ends)) (areas_in_chunks (take place chunks))
     (front_ends chunks place room.lower a within room.member)))
     room.free
-    (free_below (areas_of (drop (place + 1) chunks)) pages (page - pages)
-    (Each-weaker (λ x. page ≤ x.span.lo) (λ x. page - pages + pages ≤ x.span.lo) (λ x beyond. omega (arith, beyond, room.ends)) (areas_of (drop (place + 1) chunks)) above))
+    (free_below (areas_in_chunks (drop (place + 1) chunks)) pages (page - pages)
+    (Each-weaker (λ x. page ≤ x.span.lo) (λ x. page - pages + pages ≤ x.span.lo) (λ x beyond. omega (arith, beyond, room.ends)) (areas_in_chunks (drop (place + 1) chunks)) above))
 
 -- room from a page on that one chunk has, and those before it leave
-pub room_above : (chunks : List (List Record)) (place pages page : ℕ) → AreApart chunks → place < length chunks → HasRoomAbove (get_or chunks place []) page pages
-    → Each (λ a. a.span.hi ≤ page) (areas_of (take place chunks)) → is_free (areas_of chunks) pages page ≡ true
+pub room_above : (chunks : List (List Record)) (place pages page : ℕ) → AscendApart chunks → place < length chunks → HasRoomAbove (get_or chunks place []) page pages
+    → Each (λ a. a.span.hi ≤ page) (areas_in_chunks (take place chunks)) → is_free (areas_in_chunks chunks) pages page ≡ true
 room_above chunks place pages page a within room below =
-    free_at chunks place pages page within (free_above (areas_of (take place chunks)) pages page below) room.free
-    (free_below (areas_of (drop (place + 1) chunks)) pages page
-    (Each-weaker (λ x. room.upper.span.lo < x.span.lo) (λ x. page + pages ≤ x.span.lo) (λ x beyond. omega (arith, beyond, room.begins)) (areas_of (drop (place + 1) chunks))
+    free_at chunks place pages page within (free_above (areas_in_chunks (take place chunks)) pages page below) room.free
+    (free_below (areas_in_chunks (drop (place + 1) chunks)) pages page
+    (Each-weaker (λ x. room.upper.span.lo < x.span.lo) (λ x. page + pages ≤ x.span.lo) (λ x beyond. omega (arith, beyond, room.begins)) (areas_in_chunks (drop (place + 1) chunks))
     (back_begins chunks place room.upper a within room.member)))
 
 -- the areas from a chunk on, where no area of it and of those after it begins below a page
 pub above_more : (chunks : List (List Record)) (place left page end : ℕ) → place < length chunks → place + 1 ≡ left → page ≤ end
-    → All (λ a. page ≤ a.span.lo) (get_or chunks place []) → Each (λ a. end ≤ a.span.lo) (areas_of (drop left chunks))
-    → Each (λ a. page ≤ a.span.lo) (areas_of (drop place chunks))
+    → All (λ a. page ≤ a.span.lo) (get_or chunks place []) → Each (λ a. end ≤ a.span.lo) (areas_in_chunks (drop left chunks))
+    → Each (λ a. page ≤ a.span.lo) (areas_in_chunks (drop place chunks))
 above_more chunks place left page end within next order here above =
-    subst (λ list. Each (λ a. page ≤ a.span.lo) (areas_of list)) (sym (drop_more chunks place [] within))
-    (Each-append (λ a. page ≤ a.span.lo) (get_or chunks place []) (areas_of (drop (place + 1) chunks))
+    subst (λ list. Each (λ a. page ≤ a.span.lo) (areas_in_chunks list)) (sym (drop_more chunks place [] within))
+    (Each-append (λ a. page ≤ a.span.lo) (get_or chunks place []) (areas_in_chunks (drop (place + 1) chunks))
     (recursion_from_All (λ a. page ≤ a.span.lo) (get_or chunks place []) here)
-    (Each-weaker (λ a. end ≤ a.span.lo) (λ a. page ≤ a.span.lo) (λ a higher. omega (arith, higher, order)) (areas_of (drop (place + 1) chunks))
-    (subst (λ n. Each (λ a. end ≤ a.span.lo) (areas_of (drop n chunks))) (sym next) above)))
+    (Each-weaker (λ a. end ≤ a.span.lo) (λ a. page ≤ a.span.lo) (λ a higher. omega (arith, higher, order)) (areas_in_chunks (drop (place + 1) chunks))
+    (subst (λ n. Each (λ a. end ≤ a.span.lo) (areas_in_chunks (drop n chunks))) (sym next) above)))
 
 -- and those up to a chunk, where no area of it and of those before it ends above a page
 pub below_more : (chunks : List (List Record)) (place page start : ℕ) → place < length chunks → start ≤ page
-    → All (λ a. a.span.hi ≤ page) (get_or chunks place []) → Each (λ a. a.span.hi ≤ start) (areas_of (take place chunks))
-    → Each (λ a. a.span.hi ≤ page) (areas_of (take (place + 1) chunks))
+    → All (λ a. a.span.hi ≤ page) (get_or chunks place []) → Each (λ a. a.span.hi ≤ start) (areas_in_chunks (take place chunks))
+    → Each (λ a. a.span.hi ≤ page) (areas_in_chunks (take (place + 1) chunks))
 below_more chunks place page start within order here below =
-    subst (λ list. Each (λ a. a.span.hi ≤ page) (areas_of list)) (sym (take_more chunks place [] within))
+    subst (λ list. Each (λ a. a.span.hi ≤ page) (areas_in_chunks list)) (sym (take_more chunks place [] within))
     (subst (λ (list : List Record). Each (λ a. a.span.hi ≤ page) list) (sym (areas_of-append (take place chunks) (get_or chunks place [] ∷ [])))
-    (Each-append (λ a. a.span.hi ≤ page) (areas_of (take place chunks)) (get_or chunks place [] ++ [])
-    (Each-weaker (λ a. a.span.hi ≤ start) (λ a. a.span.hi ≤ page) (λ a lower. omega (arith, lower, order)) (areas_of (take place chunks)) below)
+    (Each-append (λ a. a.span.hi ≤ page) (areas_in_chunks (take place chunks)) (get_or chunks place [] ++ [])
+    (Each-weaker (λ a. a.span.hi ≤ start) (λ a. a.span.hi ≤ page) (λ a lower. omega (arith, lower, order)) (areas_in_chunks (take place chunks)) below)
     (subst (λ (list : List Record). Each (λ a. a.span.hi ≤ page) list) (sym (append-nil (get_or chunks place [])))
     (recursion_from_All (λ a. a.span.hi ≤ page) (get_or chunks place []) here))))
 

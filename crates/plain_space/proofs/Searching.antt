@@ -12,7 +12,7 @@ use Rattle.mm_types.specs.declared.area.Record.{Record}
 use Rattle.area_rules.specs.declared.placement.Bounds.{Bounds}
 use Rattle.area_rules.specs.Placement.{is_free, highest_below, high_place}
 use Rattle.area_rules.proofs.Placing.{free_each, high_found, high_none}
-use Rattle.split_merge.specs.Internal.Sorted.{begins_below, ends_by, BeginsRise, EndsRise}
+use Rattle.split_merge.specs.Sorted.{begins_below, ends_by, BeginsRise, EndsRise}
 use Rattle.plain_space.proofs.Fronting.{last_is}
 
 -- a list that ascends does not fall

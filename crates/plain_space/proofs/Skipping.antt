@@ -3,7 +3,7 @@ use Rattle.std.proofs.Common.{◌≡◌, ◌≤◌, ◌<◌, ◌+◌, inl, inr, 
 use Rattle.std.proofs.lemmas.Bool.{cases_lt}
 use Rattle.mm_types.specs.declared.area.Record.{Record}
 use Rattle.area_rules.specs.Placement.{is_free}
-use Rattle.plain_space.specs.Internal.Chunks.{low_of, high_of}
+use Rattle.plain_space.specs.Internal.Chunks.{chunk_low, chunk_high}
 use Rattle.plain_space.specs.Internal.Gaps.{widest_gap}
 use Rattle.plain_space.proofs.Searching.{taken_tests}
 
@@ -17,7 +17,7 @@ second_false false b is = refl
 
 -- no start whose pages end above the first area and not far above the last is free
 pub skipped_down : (pages : ℕ) (areas : List Record) (end start : ℕ) → widest_gap areas < pages → 0 < length areas
-    → end < high_of areas + pages → low_of areas < start + pages → start + pages ≤ end → is_free areas pages start ≡ false
+    → end < chunk_high areas + pages → chunk_low areas < start + pages → start + pages ≤ end → is_free areas pages start ≡ false
 unfolding is_free
 skipped_down pages [] end start narrow some above low within = absurd (omega (arith, some))
 skipped_down pages (a ∷ []) end start narrow some above low within =
@@ -31,7 +31,7 @@ skipped_down pages (a ∷ (b ∷ rest)) end start narrow some above low within =
 
 -- and no start below the last end from one on that is not far below the first area
 pub skipped_up : (pages : ℕ) (areas : List Record) (start other : ℕ) → widest_gap areas < pages → 0 < length areas
-    → low_of areas < start + pages → start ≤ other → other < high_of areas → is_free areas pages other ≡ false
+    → chunk_low areas < start + pages → start ≤ other → other < chunk_high areas → is_free areas pages other ≡ false
 unfolding is_free
 skipped_up pages [] start other narrow some low from before = absurd (omega (arith, some))
 skipped_up pages (a ∷ []) start other narrow some low from before =

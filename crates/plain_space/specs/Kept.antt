@@ -4,7 +4,7 @@ use Rattle.mm_types.specs.Config.{IsValidConfig}
 use Rattle.area_rules.specs.Growing.{AreGrowersPrivate}
 use Rattle.area_rules.specs.Placement.{bounds_of}
 use Rattle.area_rules.specs.Tables.{space_of}
-use Rattle.split_merge.specs.Plans.{IsKept, IsFresh}
+use Rattle.split_merge.specs.Plans.{IsPlannedFor, IsFreshPlan}
 use Rattle.plain_space.specs.declared.space.PlainSpace.TheInside.{Inside}
 use Rattle.plain_space.specs.Plain.{PlainView}
 
@@ -21,9 +21,9 @@ pub record IsPlain (fields : Inside) : Type 0 where
   pub valid : IsValidConfig fields.config.now
   pub bounds : fields.areas.bounds ≡ bounds_of fields.config.now
   pub most : fields.areas.most ≡ fields.config.now.areas
-  pub kept : IsKept fields.areas.bounds fields.areas.most fields.areas.list
+  pub kept : IsPlannedFor fields.areas.bounds fields.areas.most fields.areas.list
   pub files : length fields.config.now.files ≤ fields.counters.objects
   pub counted : All (λ area. area.object ≤ fields.counters.objects) fields.areas.list
   pub private : AreGrowersPrivate fields.areas.list
   pub bounded : fields.counters.brk ≤ fields.config.now.limit
-  pub fresh : IsFresh fields.config.now.areas fields.plan
+  pub fresh : IsFreshPlan fields.config.now.areas fields.plan

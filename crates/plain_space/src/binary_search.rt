@@ -1,7 +1,7 @@
 //! Binary searches among areas in order.
 ghost use Rattle.std.specs.Prelude.{◌≡◌, ◌≤◌, length, slice_get, take, None};
 ghost use Rattle.std.specs.List.{last_or};
-ghost use Rattle.split_merge.specs.Internal.Sorted.{begins_below, ends_by, BeginsRise, EndsRise};
+ghost use Rattle.split_merge.specs.Sorted.{begins_below, ends_by, BeginsRise, EndsRise};
 
 use mm_types::Record;
 

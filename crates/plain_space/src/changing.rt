@@ -1,19 +1,19 @@
 //! Plans, carried out on a store.
 ghost use Rattle.std.specs.Prelude.{◌≡◌, ◌≢◌, ◌≤◌, ◌+◌, ◌∷◌, [], length, All, AllPairs, Contains, vec_capacity};
 ghost use Rattle.split_merge.specs.Plans.{applied, olds_of, news_of, without, with_all};
-ghost use Rattle.split_merge.specs.Internal.Sorted.{BeginsRise, BeginsAscend};
-ghost use Rattle.plain_space.specs.Internal.Chunks.{areas_of};
-ghost use Rattle.plain_space.specs.Stored.{IsSane, StaysSane, is_sealing, brings_sealed};
+ghost use Rattle.split_merge.specs.Sorted.{BeginsRise, BeginsAscend};
+ghost use Rattle.plain_space.specs.Internal.Chunks.{areas_in_chunks};
+ghost use Rattle.plain_space.specs.Stored.{IsSaneStore, StaysSane, is_sealing, brings_sealed};
 
 use crate::store::Store;
 use split_merge::Change;
 
 /// Removes the area that a change takes away.
 fn remove_old(store: &mut Store, change: &Change)
-    requires sane { IsSane store.old }
-    requires ascend { BeginsAscend (areas_of store.old.chunks.items) }
-    requires member { All (Contains (areas_of store.old.chunks.items)) (olds_of (change.now ∷ [])) }
-    ensures areas { areas_of store.new.chunks.items ≡ without (olds_of (change.now ∷ [])) (areas_of store.old.chunks.items) }
+    requires sane { IsSaneStore store.old }
+    requires ascend { BeginsAscend (areas_in_chunks store.old.chunks.items) }
+    requires member { All (Contains (areas_in_chunks store.old.chunks.items)) (olds_of (change.now ∷ [])) }
+    ensures areas { areas_in_chunks store.new.chunks.items ≡ without (olds_of (change.now ∷ [])) (areas_in_chunks store.old.chunks.items) }
     ensures stays { StaysSane store.old store.new }
 {
     if let Some(old) = change.old() {
@@ -23,11 +23,11 @@ fn remove_old(store: &mut Store, change: &Change)
 
 /// Removes the areas that the changes take away, from the last change on.
 fn remove_olds(store: &mut Store, changes: &[Change])
-    requires sane { IsSane store.old }
-    requires ascend { BeginsAscend (areas_of store.old.chunks.items) }
-    requires members { All (Contains (areas_of store.old.chunks.items)) (olds_of changes.now) }
+    requires sane { IsSaneStore store.old }
+    requires ascend { BeginsAscend (areas_in_chunks store.old.chunks.items) }
+    requires members { All (Contains (areas_in_chunks store.old.chunks.items)) (olds_of changes.now) }
     requires distinct { AllPairs (λ a b. a ≢ b) (olds_of changes.now) }
-    ensures areas { areas_of store.new.chunks.items ≡ without (olds_of changes.now) (areas_of store.old.chunks.items) }
+    ensures areas { areas_in_chunks store.new.chunks.items ≡ without (olds_of changes.now) (areas_in_chunks store.old.chunks.items) }
     ensures stays { StaysSane store.old store.new }
 {
     let mut left = changes.len();
@@ -39,11 +39,11 @@ fn remove_olds(store: &mut Store, changes: &[Change])
 
 /// Inserts the area that a change brings.
 fn insert_new(store: &mut Store, change: &Change)
-    requires sane { IsSane store.old }
-    requires rise { BeginsRise (areas_of store.old.chunks.items) }
-    requires few { length (areas_of store.old.chunks.items) + length (news_of (change.now ∷ [])) ≤ vec_capacity store.old.whole }
-    ensures areas { areas_of store.new.chunks.items ≡ with_all (news_of (change.now ∷ [])) (areas_of store.old.chunks.items) }
-    ensures rise { BeginsRise (areas_of store.new.chunks.items) }
+    requires sane { IsSaneStore store.old }
+    requires rise { BeginsRise (areas_in_chunks store.old.chunks.items) }
+    requires few { length (areas_in_chunks store.old.chunks.items) + length (news_of (change.now ∷ [])) ≤ vec_capacity store.old.whole }
+    ensures areas { areas_in_chunks store.new.chunks.items ≡ with_all (news_of (change.now ∷ [])) (areas_in_chunks store.old.chunks.items) }
+    ensures rise { BeginsRise (areas_in_chunks store.new.chunks.items) }
     ensures stays { StaysSane store.old store.new }
 {
     if let Some(new) = change.new() {
@@ -53,10 +53,10 @@ fn insert_new(store: &mut Store, change: &Change)
 
 /// Inserts the areas that the changes bring.
 fn insert_news(store: &mut Store, changes: &[Change])
-    requires sane { IsSane store.old }
-    requires rise { BeginsRise (areas_of store.old.chunks.items) }
-    requires few { length (areas_of store.old.chunks.items) + length (news_of changes.now) ≤ vec_capacity store.old.whole }
-    ensures areas { areas_of store.new.chunks.items ≡ with_all (news_of changes.now) (areas_of store.old.chunks.items) }
+    requires sane { IsSaneStore store.old }
+    requires rise { BeginsRise (areas_in_chunks store.old.chunks.items) }
+    requires few { length (areas_in_chunks store.old.chunks.items) + length (news_of changes.now) ≤ vec_capacity store.old.whole }
+    ensures areas { areas_in_chunks store.new.chunks.items ≡ with_all (news_of changes.now) (areas_in_chunks store.old.chunks.items) }
     ensures stays { StaysSane store.old store.new }
 {
     for change in changes {
@@ -84,12 +84,12 @@ pub(crate) fn brings_sealed(changes: &[Change]) -> bool
 /// Changes a list by the changes of a plan, one after the other.
 #[tactic(auto, unfolding(split_merge::specs::Plans::applied))]
 pub(crate) fn carry_out(store: &mut Store, changes: &[Change])
-    requires sane { IsSane store.old }
-    requires ascend { BeginsAscend (areas_of store.old.chunks.items) }
-    requires members { All (Contains (areas_of store.old.chunks.items)) (olds_of changes.now) }
+    requires sane { IsSaneStore store.old }
+    requires ascend { BeginsAscend (areas_in_chunks store.old.chunks.items) }
+    requires members { All (Contains (areas_in_chunks store.old.chunks.items)) (olds_of changes.now) }
     requires distinct { AllPairs (λ a b. a ≢ b) (olds_of changes.now) }
-    requires few { length (applied changes.now (areas_of store.old.chunks.items)) ≤ vec_capacity store.old.whole }
-    ensures areas { areas_of store.new.chunks.items ≡ applied changes.now (areas_of store.old.chunks.items) }
+    requires few { length (applied changes.now (areas_in_chunks store.old.chunks.items)) ≤ vec_capacity store.old.whole }
+    ensures areas { areas_in_chunks store.new.chunks.items ≡ applied changes.now (areas_in_chunks store.old.chunks.items) }
     ensures stays { StaysSane store.old store.new }
 {
     remove_olds(store, changes);

@@ -3,8 +3,8 @@ ghost use Rattle.std.specs.Prelude.{◌≡◌, ◌≤◌, ◌<◌, ◌+◌, [], 
 ghost use Rattle.area_list.specs.Changes.{insert_area};
 ghost use Rattle.split_merge.specs.Plans.{without};
 ghost use Rattle.split_merge.specs.Finding.{first_from, last_before};
-ghost use Rattle.split_merge.specs.Internal.Sorted.{BeginsRise, BeginsAscend};
-ghost use Rattle.plain_space.specs.Internal.Chunks.{low_of, high_of};
+ghost use Rattle.split_merge.specs.Sorted.{BeginsRise, BeginsAscend};
+ghost use Rattle.plain_space.specs.Internal.Chunks.{chunk_low, chunk_high};
 ghost use Rattle.plain_space.specs.Internal.Gaps.{IsAscending, HasScannedDown, HasScannedUp};
 
 use crate::binary_search::{area_at, begins_below, ends_by, last_of};
@@ -96,7 +96,7 @@ impl Chunk {
 
     /// The lowest page of its first area.
     pub(crate) fn low(&self) -> u64
-        ensures { result ≡ low_of self.now }
+        ensures { result ≡ chunk_low self.now }
     {
         match self.items.as_slice() {
             [first, ..] => first.span.lo,
@@ -106,7 +106,7 @@ impl Chunk {
 
     /// The page at which its last area ends.
     pub(crate) fn high(&self) -> u64
-        ensures { result ≡ high_of self.now }
+        ensures { result ≡ chunk_high self.now }
     {
         match last_of(self.items.as_slice(), self.items.len()) {
             Some(last) => last.span.hi,

@@ -1,7 +1,7 @@
 //! A list of areas in chunks.
 ghost use Rattle.std.specs.Prelude.{◌≡◌, ◌||◌, false, [], IfOk, All};
 ghost use Rattle.area_rules.specs.Placement.{bounds_of};
-ghost use Rattle.split_merge.specs.Plans.{applied, IsPlanOf, IsKept};
+ghost use Rattle.split_merge.specs.Plans.{applied, IsPlanOf, IsPlannedFor};
 ghost use Rattle.plain_space.specs.Stored.{brings_sealed};
 
 use crate::changing::{brings_sealed, carry_out};
@@ -27,12 +27,12 @@ pub struct AreaChunks {
 }
 
 impl Model for AreaChunks {
-    ghost use Rattle.plain_space.specs.Internal.Chunks.{areas_of};
+    ghost use Rattle.plain_space.specs.Internal.Chunks.{areas_in_chunks};
     ghost use Rattle.plain_space.specs.Stored.{Stored, IsWellStored};
 
     ghost Value = { Stored };
 
-    ghost view = { λ a. record { list = areas_of a.store.chunks.items; bounds = a.bounds; most = a.most; sealed = a.sealed } };
+    ghost view = { λ a. record { list = areas_in_chunks a.store.chunks.items; bounds = a.bounds; most = a.most; sealed = a.sealed } };
 
     ghost invariant = { λ a. IsWellStored a.bounds a.most a.count a.sealed a.store };
 }
@@ -69,7 +69,7 @@ impl AreaChunks {
     /// A copy of the list. `NoMemory` where there is none for it.
     pub fn copy_list(&self, alloc: Global) -> Result<AreaList, NoMemory>
         ensures value { IfOk result (λ list. list ≡ self.now.list) }
-        ensures kept { IsKept self.now.bounds self.now.most self.now.list }
+        ensures kept { IsPlannedFor self.now.bounds self.now.most self.now.list }
     {
         let mut list = Vec::with_capacity(alloc, self.count as usize)?;
         gather(&mut list, self.store.chunks.as_slice());
@@ -80,7 +80,7 @@ impl AreaChunks {
     /// areas are shared out anew.
     pub fn apply(&mut self, plan: &Plan)
         requires plan { IsPlanOf self.old.list plan.now.changes }
-        requires kept { IsKept self.old.bounds self.old.most (applied plan.now.changes self.old.list) }
+        requires kept { IsPlannedFor self.old.bounds self.old.most (applied plan.now.changes self.old.list) }
         ensures { self.new ≡ record self.old {
           list = applied plan.now.changes self.old.list;
           sealed = self.old.sealed || brings_sealed plan.now.changes;

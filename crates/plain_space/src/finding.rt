@@ -2,15 +2,15 @@
 ghost use Rattle.std.specs.Prelude.{◌≡◌, ◌≤◌, nat_le, nat_lt, length};
 ghost use Rattle.std.specs.List.{prefix_len};
 ghost use Rattle.split_merge.specs.Finding.{first_from, last_before};
-ghost use Rattle.plain_space.specs.Internal.Chunks.{areas_of, low_of, high_of, AreInOrder, AreApart};
+ghost use Rattle.plain_space.specs.Internal.Chunks.{areas_in_chunks, chunk_low, chunk_high, AreChunksInOrder, AscendApart};
 
 use crate::chunk::Chunk;
 use mm_types::Record;
 
 /// How many chunks begin below the page.
 pub(crate) fn beginning_below(chunks: &[Chunk], page: u64) -> usize
-    requires { AreInOrder chunks.now }
-    ensures value { result ≡ prefix_len (λ chunk. nat_lt (low_of chunk) page) chunks.now }
+    requires { AreChunksInOrder chunks.now }
+    ensures value { result ≡ prefix_len (λ chunk. nat_lt (chunk_low chunk) page) chunks.now }
     ensures within { result ≤ length chunks.now }
 {
     chunks.partition_point(|chunk| chunk.low() < page)
@@ -18,8 +18,8 @@ pub(crate) fn beginning_below(chunks: &[Chunk], page: u64) -> usize
 
 /// How many chunks begin at or below the page.
 pub(crate) fn beginning_by(chunks: &[Chunk], page: u64) -> usize
-    requires { AreInOrder chunks.now }
-    ensures value { result ≡ prefix_len (λ chunk. nat_le (low_of chunk) page) chunks.now }
+    requires { AreChunksInOrder chunks.now }
+    ensures value { result ≡ prefix_len (λ chunk. nat_le (chunk_low chunk) page) chunks.now }
     ensures within { result ≤ length chunks.now }
 {
     chunks.partition_point(|chunk| chunk.low() <= page)
@@ -27,8 +27,8 @@ pub(crate) fn beginning_by(chunks: &[Chunk], page: u64) -> usize
 
 /// How many chunks end at or below the page.
 pub(crate) fn ending_by(chunks: &[Chunk], page: u64) -> usize
-    requires { AreApart chunks.now }
-    ensures value { result ≡ prefix_len (λ chunk. nat_le (high_of chunk) page) chunks.now }
+    requires { AscendApart chunks.now }
+    ensures value { result ≡ prefix_len (λ chunk. nat_le (chunk_high chunk) page) chunks.now }
     ensures within { result ≤ length chunks.now }
 {
     chunks.partition_point(|chunk| chunk.high() <= page)
@@ -36,8 +36,8 @@ pub(crate) fn ending_by(chunks: &[Chunk], page: u64) -> usize
 
 /// The first area that ends above the page: it is in the first chunk that does.
 pub(crate) fn first_from(chunks: &[Chunk], page: u64) -> Option<Record>
-    requires { AreApart chunks.now }
-    ensures { result ≡ first_from (areas_of chunks.now) page }
+    requires { AscendApart chunks.now }
+    ensures { result ≡ first_from (areas_in_chunks chunks.now) page }
 {
     let place = ending_by(chunks, page);
     if place < chunks.len() {
@@ -49,8 +49,8 @@ pub(crate) fn first_from(chunks: &[Chunk], page: u64) -> Option<Record>
 
 /// The last area that begins below the page: it is in the last chunk that does.
 pub(crate) fn last_before(chunks: &[Chunk], page: u64) -> Option<Record>
-    requires { AreApart chunks.now }
-    ensures { result ≡ last_before (areas_of chunks.now) page }
+    requires { AscendApart chunks.now }
+    ensures { result ≡ last_before (areas_in_chunks chunks.now) page }
 {
     let count = beginning_below(chunks, page);
     if count > 0 {

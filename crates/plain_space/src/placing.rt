@@ -2,7 +2,7 @@
 ghost use Rattle.std.specs.Prelude.{◌≡◌, ◌-◌, ◌≤◌, if◌then◌else◌, nat_le, ◌+◌, Some, None};
 ghost use Rattle.area_rules.specs.declared.placement.TheConstants.{WINDOW_END};
 ghost use Rattle.area_rules.specs.Placement.{highest_below, low_place, place_low, place_high};
-ghost use Rattle.plain_space.specs.Internal.Chunks.{areas_of, AreApart};
+ghost use Rattle.plain_space.specs.Internal.Chunks.{areas_in_chunks, AscendApart};
 
 use crate::chunk::Chunk;
 use crate::finding::{beginning_below, ending_by};
@@ -12,8 +12,8 @@ use area_rules::{Bounds, FLOOR, WINDOW_END, fits};
 /// from the floor on.
 #[tactic(auto, unfolding(area_rules::specs::Placement::place_low, area_rules::specs::Placement::high_place))]
 pub(crate) fn place_low(bounds: Bounds, chunks: &[Chunk], pages: u64) -> Option<u64>
-    requires { AreApart chunks.now }
-    ensures { result ≡ place_low bounds (areas_of chunks.now) pages }
+    requires { AscendApart chunks.now }
+    ensures { result ≡ place_low bounds (areas_in_chunks chunks.now) pages }
 {
     if let Some(start) = highest_below(bounds, bounds.top, chunks, pages) {
         return Some(start);
@@ -24,8 +24,8 @@ pub(crate) fn place_low(bounds: Bounds, chunks: &[Chunk], pages: u64) -> Option<
 /// Where so many pages go whose hint asks for memory above the usual window: as high as there is room below the limit.
 #[tactic(auto, unfolding(area_rules::specs::Placement::place_high))]
 pub(crate) fn place_high(bounds: Bounds, chunks: &[Chunk], pages: u64) -> Option<u64>
-    requires { AreApart chunks.now }
-    ensures { result ≡ place_high bounds (areas_of chunks.now) pages }
+    requires { AscendApart chunks.now }
+    ensures { result ≡ place_high bounds (areas_in_chunks chunks.now) pages }
 {
     highest_below(bounds, bounds.limit, chunks, pages)
 }
@@ -44,8 +44,8 @@ fn start_below(bounds: Bounds, pages: u64, end: u64) -> Option<u64>
 /// The greatest free start from the lowest page on whose pages end at or below the last. The chunks are looked at from the one
 /// with the highest begin below the last down.
 fn highest_below(bounds: Bounds, last: u64, chunks: &[Chunk], pages: u64) -> Option<u64>
-    requires { AreApart chunks.now }
-    ensures { result ≡ highest_below bounds last (areas_of chunks.now) pages }
+    requires { AscendApart chunks.now }
+    ensures { result ≡ highest_below bounds last (areas_in_chunks chunks.now) pages }
 {
     let mut end = last;
     let mut left = beginning_below(chunks, end);
@@ -77,8 +77,8 @@ fn start_within(pages: u64, start: u64) -> Option<u64>
 /// The least free start from the floor on whose pages end within the window. The chunks are looked at from the first that
 /// ends above the floor up.
 fn low_place(bounds: Bounds, chunks: &[Chunk], pages: u64) -> Option<u64>
-    requires { AreApart chunks.now }
-    ensures { result ≡ low_place bounds (areas_of chunks.now) pages }
+    requires { AscendApart chunks.now }
+    ensures { result ≡ low_place bounds (areas_in_chunks chunks.now) pages }
 {
     let mut start = bounds.low.max(FLOOR);
     let mut next = ending_by(chunks, start);

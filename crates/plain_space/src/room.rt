@@ -17,13 +17,13 @@ pub struct Room {
 
 impl Model for Room {
     ghost use Rattle.std.specs.Prelude.{ℕ};
-    ghost use Rattle.split_merge.specs.Plans.{IsFresh};
+    ghost use Rattle.split_merge.specs.Plans.{IsFreshPlan};
 
     ghost Value = { ℕ };
 
     ghost view = { λ room. room.areas.most };
 
-    ghost invariant = { λ room. IsFresh room.areas.most room.plan };
+    ghost invariant = { λ room. IsFreshPlan room.areas.most room.plan };
 }
 
 impl Room {

@@ -3,9 +3,9 @@ ghost use Rattle.std.specs.Prelude.{◌≡◌, ◌≤◌, ◌<◌, ◌+◌, ◌*
 ghost use Rattle.area_list.specs.Changes.{insert_area};
 ghost use Rattle.split_merge.specs.Plans.{without};
 ghost use Rattle.plain_space.specs.declared.chunk.TheConstants.{MOST_IN_CHUNK, HALF, LARGE};
-ghost use Rattle.split_merge.specs.Internal.Sorted.{BeginsRise, BeginsAscend};
-ghost use Rattle.plain_space.specs.Internal.Chunks.{areas_of, IsFilled, AreOthersFilled};
-ghost use Rattle.plain_space.specs.Stored.{IsRoomy, IsSane, StaysSane};
+ghost use Rattle.split_merge.specs.Sorted.{BeginsRise, BeginsAscend};
+ghost use Rattle.plain_space.specs.Internal.Chunks.{areas_in_chunks, IsFilled, AreOthersFilled};
+ghost use Rattle.plain_space.specs.Stored.{IsRoomy, IsSaneStore, StaysSane};
 
 use crate::chunk::{Chunk, HALF, append};
 use crate::finding::{beginning_below, beginning_by};
@@ -24,8 +24,8 @@ pub(crate) struct Store {
 
 /// Makes a vector hold the areas of the chunks.
 pub(crate) fn gather(whole: &mut Vec<Record>, chunks: &[Chunk])
-    requires { length (areas_of chunks.now) ≤ vec_capacity whole.old }
-    ensures items { whole.new.items ≡ areas_of chunks.now }
+    requires { length (areas_in_chunks chunks.now) ≤ vec_capacity whole.old }
+    ensures items { whole.new.items ≡ areas_in_chunks chunks.now }
     ensures room { vec_capacity whole.new ≡ vec_capacity whole.old }
 {
     whole.clear();
@@ -52,7 +52,7 @@ fn deal(chunks: &mut Vec<Chunk>, spares: &mut Vec<Chunk>, areas: &[Record])
     requires none { chunks.old.items ≡ [] }
     requires enough { length areas.now ≤ HALF * vec_len spares.old }
     requires room { vec_len spares.old ≤ vec_capacity chunks.old }
-    ensures areas { areas_of chunks.new.items ≡ areas.now }
+    ensures areas { areas_in_chunks chunks.new.items ≡ areas.now }
     ensures filled { All IsFilled chunks.new.items }
     ensures total { vec_len chunks.new + vec_len spares.new ≡ vec_len spares.old }
     ensures room { vec_capacity chunks.new ≡ vec_capacity chunks.old }
@@ -77,7 +77,7 @@ fn divide(chunks: &mut Vec<Chunk>, place: usize, mut upper: Chunk)
     requires most { length (slice_index_or chunks.old.items place []) ≤ MOST_IN_CHUNK }
     requires others { AreOthersFilled chunks.old.items place }
     requires room { vec_len chunks.old < vec_capacity chunks.old }
-    ensures areas { areas_of chunks.new.items ≡ areas_of chunks.old.items }
+    ensures areas { areas_in_chunks chunks.new.items ≡ areas_in_chunks chunks.old.items }
     ensures filled { All IsFilled chunks.new.items }
     ensures len { vec_len chunks.new ≡ vec_len chunks.old + 1 }
     ensures room { vec_capacity chunks.new ≡ vec_capacity chunks.old }
@@ -92,7 +92,7 @@ fn divide(chunks: &mut Vec<Chunk>, place: usize, mut upper: Chunk)
 impl Store {
     /// A store of no area, for so many at most: it has chunks for twice as many, and for two chunks more.
     pub(crate) fn with_room(alloc: Global, areas: u32) -> Result<Store, NoMemory>
-        ensures made { IfOk result (λ store. (store.chunks.items ≡ []) × (IsSane store) × (vec_capacity store.whole ≡ areas)) }
+        ensures made { IfOk result (λ store. (store.chunks.items ≡ []) × (IsSaneStore store) × (vec_capacity store.whole ≡ areas)) }
         ensures few { IfOk result (λ store. HALF * vec_capacity store.chunks ≤ 2 * (areas + MOST_IN_CHUNK)) }
         ensures spares { IfOk result (λ store. vec_capacity store.spares ≡ vec_capacity store.chunks) }
     {
@@ -111,7 +111,7 @@ impl Store {
 
     /// Forgets all areas, and keeps the room.
     pub(crate) fn clear(&mut self)
-        requires sane { IsSane self.old }
+        requires sane { IsSaneStore self.old }
         ensures none { self.new.chunks.items ≡ [] }
         ensures stays { StaysSane self.old self.new }
     {
@@ -121,8 +121,8 @@ impl Store {
     /// Shares all areas out anew.
     fn share_out(&mut self)
         requires roomy { IsRoomy self.old }
-        requires few { length (areas_of self.old.chunks.items) ≤ vec_capacity self.old.whole }
-        ensures areas { areas_of self.new.chunks.items ≡ areas_of self.old.chunks.items }
+        requires few { length (areas_in_chunks self.old.chunks.items) ≤ vec_capacity self.old.whole }
+        ensures areas { areas_in_chunks self.new.chunks.items ≡ areas_in_chunks self.old.chunks.items }
         ensures stays { StaysSane self.old self.new }
     {
         gather(&mut self.whole, self.chunks.as_slice());
@@ -137,8 +137,8 @@ impl Store {
         requires most { length (slice_index_or self.old.chunks.items place []) ≤ MOST_IN_CHUNK }
         requires others { AreOthersFilled self.old.chunks.items place }
         requires roomy { IsRoomy self.old }
-        requires few { length (areas_of self.old.chunks.items) ≤ vec_capacity self.old.whole }
-        ensures areas { areas_of self.new.chunks.items ≡ areas_of self.old.chunks.items }
+        requires few { length (areas_in_chunks self.old.chunks.items) ≤ vec_capacity self.old.whole }
+        ensures areas { areas_in_chunks self.new.chunks.items ≡ areas_in_chunks self.old.chunks.items }
         ensures stays { StaysSane self.old self.new }
     {
         if let Some(upper) = self.spares.pop() {
@@ -153,7 +153,7 @@ impl Store {
         requires none { self.old.chunks.items ≡ [] }
         requires roomy { IsRoomy self.old }
         requires few { 0 < vec_capacity self.old.whole }
-        ensures areas { areas_of self.new.chunks.items ≡ new ∷ [] }
+        ensures areas { areas_in_chunks self.new.chunks.items ≡ new ∷ [] }
         ensures stays { StaysSane self.old self.new }
     {
         let Some(mut chunk) = self.spares.pop() else {
@@ -167,10 +167,10 @@ impl Store {
     fn insert_at(&mut self, place: usize, new: Record)
         requires within { place < vec_len self.old.chunks }
         requires rise { BeginsRise (slice_index_or self.old.chunks.items place []) }
-        requires sane { IsSane self.old }
-        requires few { length (areas_of self.old.chunks.items) < vec_capacity self.old.whole }
-        ensures areas { areas_of self.new.chunks.items
-            ≡ areas_of (set self.old.chunks.items place (insert_area new (slice_index_or self.old.chunks.items place []))) }
+        requires sane { IsSaneStore self.old }
+        requires few { length (areas_in_chunks self.old.chunks.items) < vec_capacity self.old.whole }
+        ensures areas { areas_in_chunks self.new.chunks.items
+            ≡ areas_in_chunks (set self.old.chunks.items place (insert_area new (slice_index_or self.old.chunks.items place []))) }
         ensures stays { StaysSane self.old self.new }
     {
         let chunk = &mut self.chunks[place];
@@ -182,10 +182,10 @@ impl Store {
 
     /// Inserts an area: into the last chunk that begins below it, or else into the first.
     pub(crate) fn insert(&mut self, new: Record)
-        requires sane { IsSane self.old }
-        requires rise { BeginsRise (areas_of self.old.chunks.items) }
-        requires few { length (areas_of self.old.chunks.items) < vec_capacity self.old.whole }
-        ensures areas { areas_of self.new.chunks.items ≡ insert_area new (areas_of self.old.chunks.items) }
+        requires sane { IsSaneStore self.old }
+        requires rise { BeginsRise (areas_in_chunks self.old.chunks.items) }
+        requires few { length (areas_in_chunks self.old.chunks.items) < vec_capacity self.old.whole }
+        ensures areas { areas_in_chunks self.new.chunks.items ≡ insert_area new (areas_in_chunks self.old.chunks.items) }
         ensures stays { StaysSane self.old self.new }
     {
         if self.chunks.is_empty() {
@@ -201,9 +201,9 @@ impl Store {
         requires within { place < vec_len self.old.chunks }
         requires ascend { BeginsAscend (slice_index_or self.old.chunks.items place []) }
         requires member { Contains (slice_index_or self.old.chunks.items place []) old.now }
-        requires sane { IsSane self.old }
-        ensures areas { areas_of self.new.chunks.items
-            ≡ areas_of (set self.old.chunks.items place (without (old.now ∷ []) (slice_index_or self.old.chunks.items place []))) }
+        requires sane { IsSaneStore self.old }
+        ensures areas { areas_in_chunks self.new.chunks.items
+            ≡ areas_in_chunks (set self.old.chunks.items place (without (old.now ∷ []) (slice_index_or self.old.chunks.items place []))) }
         ensures stays { StaysSane self.old self.new }
     {
         let chunk = &mut self.chunks[place];
@@ -216,10 +216,10 @@ impl Store {
 
     /// Removes an area, from the last chunk that begins at or below it.
     pub(crate) fn remove(&mut self, old: &Record)
-        requires sane { IsSane self.old }
-        requires ascend { BeginsAscend (areas_of self.old.chunks.items) }
-        requires member { Contains (areas_of self.old.chunks.items) old.now }
-        ensures areas { areas_of self.new.chunks.items ≡ without (old.now ∷ []) (areas_of self.old.chunks.items) }
+        requires sane { IsSaneStore self.old }
+        requires ascend { BeginsAscend (areas_in_chunks self.old.chunks.items) }
+        requires member { Contains (areas_in_chunks self.old.chunks.items) old.now }
+        ensures areas { areas_in_chunks self.new.chunks.items ≡ without (old.now ∷ []) (areas_in_chunks self.old.chunks.items) }
         ensures stays { StaysSane self.old self.new }
     {
         let count = beginning_by(self.chunks.as_slice(), old.span.lo);

@@ -164,6 +164,20 @@ fn workers_run_at_once(rt: HostRuntime) -> Result<(), Fail> {
     Ok(())
 }
 
+/// Two threads that map a page each.
+const TWO_MAPPINGS: &[u8] = b"vmatrace 1\n\
+      0 mmap 0 4096 PROT_READ MAP_PRIVATE|MAP_ANONYMOUS -1 0\n\
+      1 mmap 0 4096 PROT_READ MAP_PRIVATE|MAP_ANONYMOUS -1 0\n";
+
+#[test]
+fn two_mappings_are_made_at_once(rt: HostRuntime) -> Result<(), Fail> {
+    let gate = Meeting::new(2, 2);
+    let _sink = output(&rt, rt.alloc(), "threads", TWO_MAPPINGS, &gate)?;
+    assert_eq!(rt; gate.come.load(Ordering::SeqCst), 2);
+    assert_eq!(rt; gate.released.load(Ordering::SeqCst), 2);
+    Ok(())
+}
+
 /// The forks are lines 2 to 9, and each child has one line behind them.
 #[test]
 fn children_run_at_once(rt: HostRuntime) -> Result<(), Fail> {

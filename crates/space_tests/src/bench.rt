@@ -1,7 +1,7 @@
 //! The state behind the lock with a caller of it, and a reader of its trees.
 ghost use Rattle.std.specs.Prelude.{◌≡◌, IfSome, slice_get, Some};
 ghost use Rattle.lock_core.specs.declared.stage.Stage.TheVariants.{Out};
-ghost use Rattle.vma_lock.specs.Seats.{table_of, IsOf, stage, HasTurn};
+ghost use Rattle.vma_lock.specs.Seats.{vma_table_id, IsOfVmaTable, stage, HasTurn};
 ghost use Rattle.node_slots.specs.Seats as trees;
 
 use mm_state::MmState;
@@ -22,8 +22,8 @@ pub(crate) struct Bench {
     seat: ReaderSeat,
     nodes: NodeTable,
     node_seat: NodeSeat,
-    pub ghost walker: { trees.IsOf node_seat nodes × trees.IsClosed node_seat },
-    pub ghost mine: { IsOf seat table × (table_of table ≡ state.table) },
+    pub ghost walker: { trees.IsOfNodeTable node_seat nodes × trees.IsClosed node_seat },
+    pub ghost mine: { IsOfVmaTable seat table × (vma_table_id table ≡ state.table) },
     pub ghost turn: { (stage seat ≡ Out) × HasTurn seat },
     pub ghost room: { state.room ≡ 8000 },
 }
@@ -43,7 +43,7 @@ pub(crate) struct Caller {
 pub(crate) struct Walker {
     nodes: NodeTable,
     seat: NodeSeat,
-    pub ghost mine: { trees.IsOf seat nodes },
+    pub ghost mine: { trees.IsOfNodeTable seat nodes },
 }
 
 impl Caller {

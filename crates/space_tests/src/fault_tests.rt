@@ -1,7 +1,7 @@
 //! A fault before anything is mapped.
 
 ghost use Rattle.std.specs.Prelude.{IfOk};
-ghost use Rattle.fault_path.specs.Passes.{SitsAt};
+ghost use Rattle.fault_path.specs.Passes.{SitsAtTables};
 
 use fault_path::{Fast, FaultView, Miss, Pass};
 use mm_types::{Access, Config, Files, NoMemory, Page};
@@ -24,7 +24,7 @@ fn the_first_tree_has_no_area(rt: HostRuntime) -> Result<(), Fail> {
 
 /// The tables of an address space of at most one area, with no files, before anything is published, and a pass.
 fn first_tree<R: Abort>(rt: &R, alloc: Global) -> Result<(FaultView, Pass), NoMemory>
-    ensures { IfOk result (λ made. SitsAt made.0 made.1) }
+    ensures { IfOk result (λ made. SitsAtTables made.0 made.1) }
 {
     let mut config = Config::with_files(Files::of(Vec::new(alloc)));
     config.areas = 1;

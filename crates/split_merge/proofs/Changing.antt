@@ -17,7 +17,7 @@ use Rattle.split_merge.specs.declared.plan.Change.{Change}
 use Rattle.split_merge.specs.declared.plan.Change.TheVariants.{Alter}
 use Rattle.split_merge.specs.declared.planner.Merging.{Merging}
 use Rattle.split_merge.specs.Plans.{olds_of}
-use Rattle.split_merge.specs.Internal.Planner.{Event, page_at, same_area, detaching, replacing, closing, taken, left, spare, covered, left_over, settled, unsettled, merging_with, planned_with, along, come, come_in, weight}
+use Rattle.split_merge.specs.Internal.Planner.{Event, page_at, same_area, detaching, replacing, closing, taken, left, spare, covered, left_over, merging_behind, unsettled, merging_with, planned_with, along, come, come_in, weight}
 use Rattle.split_merge.proofs.Replacing.{olds_of-append}
 use Rattle.split_merge.proofs.Counting.{contains_cases}
 use Rattle.split_merge.proofs.Turning.{Unlike, IsRealChange}
@@ -107,27 +107,27 @@ real_part areas pending (Some merging) part real fits = by (joins merging.area p
     by true = (real_detaching areas (spare merging.replaces (taken pending part)), real_sharing areas merging.replaces (taken pending part) merging.area real)
     by false = (real_replacing areas merging.replaces merging.area real, fits)
 
-real_settled : (areas : List Record) (pending : Option Record) (merging : Option Merging) → MergingIsReal areas merging → MergingIsReal areas (settled pending merging)
+real_settled : (areas : List Record) (pending : Option Record) (merging : Option Merging) → MergingIsReal areas merging → MergingIsReal areas (merging_behind pending merging)
 real_settled areas pending None real = tt
 real_settled areas pending (Some merging) real = real_sharing areas merging.replaces (covered pending merging.area) merging.area real
 
 real_end : (areas : List Record) (pending : Option Record) (merging : Option Merging) → MergingIsReal areas merging
-    → Each (IsRealChange areas) (detaching (unsettled pending merging) ++ closing (settled pending merging))
-real_end areas pending merging real = Each-append (IsRealChange areas) (detaching (unsettled pending merging)) (closing (settled pending merging))
-    (real_detaching areas (unsettled pending merging)) (real_closing areas (settled pending merging) (real_settled areas pending merging real))
+    → Each (IsRealChange areas) (detaching (unsettled pending merging) ++ closing (merging_behind pending merging))
+real_end areas pending merging real = Each-append (IsRealChange areas) (detaching (unsettled pending merging)) (closing (merging_behind pending merging))
+    (real_detaching areas (unsettled pending merging)) (real_closing areas (merging_behind pending merging) (real_settled areas pending merging real))
 
 real_along : (areas : List Record) (pending : Option Record) (merging : Option Merging) (events : List Event) → MergingIsReal areas merging → Fits areas pending events
     → Each (IsRealChange areas) (along pending merging events)
 real_along areas pending merging [] real fits = real_end areas pending merging real
 real_along areas pending merging (Event.Begins area ∷ events) real fits =
-    Each-append (IsRealChange areas) (detaching (unsettled pending merging)) (along (Some area) (settled pending merging) events) (real_detaching areas (unsettled pending merging))
-    (real_along areas (Some area) (settled pending merging) events (real_settled areas pending merging real) fits)
+    Each-append (IsRealChange areas) (detaching (unsettled pending merging)) (along (Some area) (merging_behind pending merging) events) (real_detaching areas (unsettled pending merging))
+    (real_along areas (Some area) (merging_behind pending merging) events (real_settled areas pending merging real) fits)
 real_along areas pending merging (Event.Comes part ∷ events) real fits =
     let here = real_part areas pending merging part real fits.0 in
     Each-append (IsRealChange areas) (planned_with pending merging part) (along (left pending part) (Some (merging_with pending merging part)) events) here.0
     (real_along areas (left pending part) (Some (merging_with pending merging part)) events here.1 fits.1)
 real_along areas pending merging (Event.Passed area ∷ events) real fits =
-    Each-append (IsRealChange areas) (detaching (unsettled pending merging) ++ closing (settled pending merging)) (along None None events) (real_end areas pending merging real)
+    Each-append (IsRealChange areas) (detaching (unsettled pending merging) ++ closing (merging_behind pending merging)) (along None None events) (real_end areas pending merging real)
     (real_along areas None None events tt fits)
 
 -- an old area is below all that comes, is the pending one, or comes
@@ -297,16 +297,16 @@ covered_has P None (Some old) new has = by (nat_lt old.span.lo new.span.hi)
     by false = (has, tt)
 
 settled_has : (P : Record → Type 0) (pending : Option Record) (merging : Option Merging) → IfSome pending P → MergingHas P merging
-    → IfSome (unsettled pending merging) P × MergingHas P (settled pending merging)
+    → IfSome (unsettled pending merging) P × MergingHas P (merging_behind pending merging)
 settled_has P pending None has of_merging = (has, tt)
 settled_has P pending (Some merging) has of_merging = let parts = covered_has P merging.replaces pending merging.area has in
     (parts.0, shared_has P merging.replaces (covered pending merging.area) of_merging parts.1)
 
 end_olds : (P : Record → Type 0) (pending : Option Record) (merging : Option Merging) → IfSome pending P → MergingHas P merging
-    → Each P (olds_of (detaching (unsettled pending merging) ++ closing (settled pending merging)))
+    → Each P (olds_of (detaching (unsettled pending merging) ++ closing (merging_behind pending merging)))
 end_olds P pending merging has of_merging = let here = settled_has P pending merging has of_merging in
-    each_olds P (detaching (unsettled pending merging)) (closing (settled pending merging)) (olds_of-detaching P (unsettled pending merging) here.0)
-    (olds_of-closing P (settled pending merging) here.1)
+    each_olds P (detaching (unsettled pending merging)) (closing (merging_behind pending merging)) (olds_of-detaching P (unsettled pending merging) here.0)
+    (olds_of-closing P (merging_behind pending merging) here.1)
 
 -- only they go
 along_olds : (P : Record → Type 0) (pending : Option Record) (merging : Option Merging) (events : List Event) → IfSome pending P → MergingHas P merging → Each P (begun_in events)
@@ -314,14 +314,14 @@ along_olds : (P : Record → Type 0) (pending : Option Record) (merging : Option
 along_olds P pending merging [] has of_merging each = end_olds P pending merging has of_merging
 along_olds P pending merging (Event.Begins area ∷ events) has of_merging each =
     let here = settled_has P pending merging has of_merging in
-    each_olds P (detaching (unsettled pending merging)) (along (Some area) (settled pending merging) events) (olds_of-detaching P (unsettled pending merging) here.0)
-    (along_olds P (Some area) (settled pending merging) events each.0 here.1 each.1)
+    each_olds P (detaching (unsettled pending merging)) (along (Some area) (merging_behind pending merging) events) (olds_of-detaching P (unsettled pending merging) here.0)
+    (along_olds P (Some area) (merging_behind pending merging) events each.0 here.1 each.1)
 along_olds P pending merging (Event.Comes part ∷ events) has of_merging each =
     let here = part_has P pending merging part has of_merging in
     each_olds P (planned_with pending merging part) (along (left pending part) (Some (merging_with pending merging part)) events) here.0
     (along_olds P (left pending part) (Some (merging_with pending merging part)) events (taken_has P pending part has).1 here.1 each)
 along_olds P pending merging (Event.Passed area ∷ events) has of_merging each =
-    each_olds P (detaching (unsettled pending merging) ++ closing (settled pending merging)) (along None None events) (end_olds P pending merging has of_merging)
+    each_olds P (detaching (unsettled pending merging) ++ closing (merging_behind pending merging)) (along None None events) (end_olds P pending merging has of_merging)
     (along_olds P None None events tt tt each)
 
 pub changes_olds : (P : Record → Type 0) (events : List Event) → Each P (begun_in events) → Each P (olds_of (along None None events))
@@ -350,12 +350,12 @@ begun_comes P [] = tt
 begun_comes P (part ∷ parts) = begun_comes P parts
 
 end_short : (pending : Option Record) (merging : Option Merging)
-    → length (detaching (unsettled pending merging) ++ closing (settled pending merging)) ≤ option_len pending + option_len merging
+    → length (detaching (unsettled pending merging) ++ closing (merging_behind pending merging)) ≤ option_len pending + option_len merging
 end_short pending merging = omega (
   arith,
-  length-append (detaching (unsettled pending merging)) (closing (settled pending merging)),
+  length-append (detaching (unsettled pending merging)) (closing (merging_behind pending merging)),
   length-detaching (unsettled pending merging),
-  length-closing (settled pending merging),
+  length-closing (merging_behind pending merging),
   settled_short pending merging,
 )
 
@@ -366,10 +366,10 @@ along_short pending merging [] = omega (arith, end_short pending merging)
 along_short pending merging (Event.Begins area ∷ events) =
     omega (
       arith,
-      length-append (detaching (unsettled pending merging)) (along (Some area) (settled pending merging) events),
+      length-append (detaching (unsettled pending merging)) (along (Some area) (merging_behind pending merging) events),
       length-detaching (unsettled pending merging),
       settled_short pending merging,
-      along_short (Some area) (settled pending merging) events,
+      along_short (Some area) (merging_behind pending merging) events,
     )
 along_short pending merging (Event.Comes part ∷ events) = omega (
   arith,
@@ -379,7 +379,7 @@ along_short pending merging (Event.Comes part ∷ events) = omega (
 )
 along_short pending merging (Event.Passed area ∷ events) = omega (
   arith,
-  length-append (detaching (unsettled pending merging) ++ closing (settled pending merging)) (along None None events),
+  length-append (detaching (unsettled pending merging) ++ closing (merging_behind pending merging)) (along None None events),
   end_short pending merging,
   along_short None None events,
 )

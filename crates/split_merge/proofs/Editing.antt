@@ -10,7 +10,7 @@ use Rattle.split_merge.specs.declared.plan.Change.{Change}
 use Rattle.split_merge.specs.declared.plan.Change.TheVariants.{Detach, Alter, Add}
 use Rattle.split_merge.specs.Plans.{new_of, olds_of, news_of}
 use Rattle.split_merge.proofs.Replacing.{olds_of-append, news_of-append}
-use Rattle.split_merge.specs.Internal.Sorted.{begins_below}
+use Rattle.split_merge.specs.Sorted.{begins_below}
 
 -- an area of a list has its place within it
 pub begins_member : (areas : List Record) (old : Record) → Contains areas old → begins_below old.span.lo areas < length areas

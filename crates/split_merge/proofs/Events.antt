@@ -9,7 +9,7 @@ use Rattle.area_list.proofs.Elements.{Pairs, Each-append, Each-weaker, Each-also
 use Rattle.area_list.proofs.Parts.{Apart}
 use Rattle.area_list.proofs.Order.{Before}
 use Rattle.split_merge.specs.declared.becoming.Becoming.{Becoming}
-use Rattle.split_merge.specs.Internal.Becoming.{low_of, high_of, parts_left, AreInOrder}
+use Rattle.split_merge.specs.Internal.Becoming.{lower_span, upper_span, parts_left, AreSpansInOrder}
 use Rattle.split_merge.specs.Internal.Planner.{Event, page_at, come, come_in, events_at, events_along}
 use Rattle.split_merge.proofs.Lists.{Pairs-images}
 use Rattle.split_merge.proofs.Ascending.{Below, insert_front}
@@ -43,7 +43,7 @@ Pairs-comes becoming area (part ∷ parts) each pairs = (
 abbrev IsEventOf : Record → Event → Type 0
 IsEventOf area event = (2 * area.span.lo ≤ key event) × (key event < 2 * area.span.hi)
 
-events_within : (becoming : Becoming) (area : Record) → AreInOrder (low_of becoming) (high_of becoming) → IsValid area → Each (IsEventOf area) (events_at becoming area)
+events_within : (becoming : Becoming) (area : Record) → AreSpansInOrder (lower_span becoming) (upper_span becoming) → IsValid area → Each (IsEventOf area) (events_at becoming area)
 events_within becoming area order valid = by (is_close becoming area) refl
   where
     by : (test : Bool) → is_close becoming area ≡ test → Each (IsEventOf area) (events_at becoming area)
@@ -54,7 +54,7 @@ events_within becoming area order valid = by (is_close becoming area) refl
     )
     by false far = subst (Each (IsEventOf area)) (sym (events_far becoming area far)) ((omega arith, omega (arith, valid.some_pages)), tt)
 
-events_ascend : (becoming : Becoming) (area : Record) → AreInOrder (low_of becoming) (high_of becoming) → Pairs Precedes (events_at becoming area)
+events_ascend : (becoming : Becoming) (area : Record) → AreSpansInOrder (lower_span becoming) (upper_span becoming) → Pairs Precedes (events_at becoming area)
 events_ascend becoming area order = by (is_close becoming area) refl
   where
     by : (test : Bool) → is_close becoming area ≡ test → Pairs Precedes (events_at becoming area)
@@ -65,7 +65,7 @@ events_ascend becoming area order = by (is_close becoming area) refl
     by false far = subst (Pairs Precedes) (sym (events_far becoming area far)) (tt, tt)
 
 -- what a list brings ascends
-pub along_ascends : (becoming : Becoming) (areas : List Record) → AreInOrder (low_of becoming) (high_of becoming) → InOrder areas → Pairs Precedes (events_along becoming areas)
+pub along_ascends : (becoming : Becoming) (areas : List Record) → AreSpansInOrder (lower_span becoming) (upper_span becoming) → InOrder areas → Pairs Precedes (events_along becoming areas)
 along_ascends becoming areas order o = Pairs-images IsValid Before Precedes (events_at becoming)
     (λ area valid. events_ascend becoming area order)
     (λ a b first second before. Each-weaker (IsEventOf a) (λ event. Each (Precedes event) (events_at becoming b))

@@ -13,7 +13,7 @@ use Rattle.split_merge.proofs.Ascending.{Below}
 use Rattle.split_merge.specs.Plans.{starts_alike, without, with_all}
 use Rattle.split_merge.proofs.Counting.{contains_cases, contains_filter}
 use Rattle.split_merge.proofs.Lists.{filter_all}
-use Rattle.split_merge.specs.Internal.Sorted.{begins_below, BeginsAscend}
+use Rattle.split_merge.specs.Sorted.{begins_below, BeginsAscend}
 
 filter_swap : {A : Type 0} (p q : A → Bool) (xs : List A) → filter p (filter q xs) ≡ filter q (filter p xs)
 filter_swap p q [] = refl

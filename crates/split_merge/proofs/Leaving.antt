@@ -8,7 +8,7 @@ use Rattle.split_merge.specs.declared.plan.Change.{Change}
 use Rattle.split_merge.specs.Plans.{olds_of, starts_alike, without}
 use Rattle.split_merge.proofs.Counting.{Pairs-from_AllPairs, unlike}
 use Rattle.split_merge.proofs.Lists.{Pairs-right, Pairs-across}
-use Rattle.split_merge.specs.Internal.Sorted.{BeginsAscend}
+use Rattle.split_merge.specs.Sorted.{BeginsAscend}
 use Rattle.split_merge.proofs.Editing.{olds_around, olds_from}
 use Rattle.split_merge.proofs.Going.{ascending_pairs, contains_without, without-append, without_swap}
 

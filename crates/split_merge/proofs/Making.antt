@@ -12,7 +12,7 @@ use Rattle.area_list.proofs.Merging.{joins_true}
 use Rattle.split_merge.specs.declared.plan.Change.{Change}
 use Rattle.split_merge.specs.declared.plan.Change.TheVariants.{Alter}
 use Rattle.split_merge.specs.declared.planner.Merging.{Merging}
-use Rattle.split_merge.specs.Internal.Planner.{Event, same_area, detaching, replacing, closing, taken, left, spare, covered, left_over, settled, unsettled, merging_with, planned_with, along}
+use Rattle.split_merge.specs.Internal.Planner.{Event, same_area, detaching, replacing, closing, taken, left, spare, covered, left_over, merging_behind, unsettled, merging_with, planned_with, along}
 use Rattle.split_merge.proofs.Joining.{joins-joined_area}
 use Rattle.split_merge.proofs.Turning.{Turns}
 use Rattle.split_merge.proofs.Steps.{same_areas}
@@ -102,7 +102,7 @@ turns_part merging pending part events goes_on = by (joins merging.area part)
 
 -- what is settled: the merging takes the pending old area, or that goes
 turns_settling : (pending : Option Record) (merging : Option Merging) (areas : List Record) {plan : List Change} {list : List Record}
-    → Turns plan (old_of_merging (settled pending merging) ++ areas) list
+    → Turns plan (old_of_merging (merging_behind pending merging) ++ areas) list
     → Turns (detaching (unsettled pending merging) ++ plan) (old_of_merging merging ++ (option_to_list pending ++ areas)) list
 turns_settling pending None areas t = turns_detaching [] pending areas t
 turns_settling pending (Some merging) areas {plan = plan} {list = list} t = by merging.replaces pending t
@@ -119,18 +119,18 @@ turns_settling pending (Some merging) areas {plan = plan} {list = list} t = by m
         test false t = Turns.goes [] old areas t
 
 -- and makes the same area
-new_settled : (pending : Option Record) (merging : Option Merging) → new_of_merging (settled pending merging) ≡ new_of_merging merging
+new_settled : (pending : Option Record) (merging : Option Merging) → new_of_merging (merging_behind pending merging) ≡ new_of_merging merging
 new_settled pending None = refl
 new_settled pending (Some merging) = refl
 
 turns_end : (pending : Option Record) (merging : Option Merging)
-    → Turns (detaching (unsettled pending merging) ++ closing (settled pending merging)) (old_of_merging merging ++ (option_to_list pending ++ [])) (option_to_list (new_of_merging merging))
+    → Turns (detaching (unsettled pending merging) ++ closing (merging_behind pending merging)) (old_of_merging merging ++ (option_to_list pending ++ [])) (option_to_list (new_of_merging merging))
 turns_end pending merging = turns_settling pending merging [] (subst (λ plan. Turns plan (old_of_merging last ++ []) (option_to_list (new_of_merging merging))) (append-nil (closing last))
     (subst (λ list. Turns (closing last ++ []) (old_of_merging last ++ []) list) (append-nil (option_to_list (new_of_merging last)) ∙ ap option_to_list (new_settled pending merging))
     (turns_closing last Turns.done)))
   where
     last : Option Merging
-    last = settled pending merging
+    last = merging_behind pending merging
 
 -- the plan along these events turns the old areas into those that are made
 pub turns_along : (pending : Option Record) (merging : Option Merging) (events : List Event)
@@ -138,8 +138,8 @@ pub turns_along : (pending : Option Record) (merging : Option Merging) (events :
 turns_along pending merging [] = turns_end pending merging
 turns_along pending merging (Event.Begins area ∷ events) =
     turns_settling pending merging (area ∷ olds_in events)
-    (subst (λ new. Turns (along (Some area) (settled pending merging) events) (old_of_merging (settled pending merging) ++ area ∷ olds_in events) (made new events))
-    (new_settled pending merging) (turns_along (Some area) (settled pending merging) events))
+    (subst (λ new. Turns (along (Some area) (merging_behind pending merging) events) (old_of_merging (merging_behind pending merging) ++ area ∷ olds_in events) (made new events))
+    (new_settled pending merging) (turns_along (Some area) (merging_behind pending merging) events))
 turns_along pending None (Event.Comes part ∷ events) =
     subst (λ areas. Turns (along (left pending part) (Some (record { replaces = taken pending part; area = part })) events) areas (made (Some part) events))
     (pending_split pending part (olds_in events)) (turns_along (left pending part) (Some (record { replaces = taken pending part; area = part })) events)
@@ -147,11 +147,11 @@ turns_along pending (Some merging) (Event.Comes part ∷ events) =
     turns_part merging pending part events (λ next. turns_along (left pending part) (Some next) events)
 turns_along pending merging (Event.Passed area ∷ events) =
     subst (λ plan. Turns plan (old_of_merging merging ++ (option_to_list pending ++ area ∷ olds_in events)) (option_to_list (new_of_merging merging) ++ area ∷ made None events))
-    (sym (append_assoc (detaching (unsettled pending merging)) (closing (settled pending merging)) (along None None events)))
+    (sym (append_assoc (detaching (unsettled pending merging)) (closing (merging_behind pending merging)) (along None None events)))
     (turns_settling pending merging (area ∷ olds_in events)
-    (subst (λ new. Turns (closing (settled pending merging) ++ along None None events) (old_of_merging (settled pending merging) ++ area ∷ olds_in events)
+    (subst (λ new. Turns (closing (merging_behind pending merging) ++ along None None events) (old_of_merging (merging_behind pending merging) ++ area ∷ olds_in events)
     (option_to_list new ++ area ∷ made None events)) (new_settled pending merging)
-    (turns_closing (settled pending merging) (Turns.stays area (turns_along None None events)))))
+    (turns_closing (merging_behind pending merging) (Turns.stays area (turns_along None None events)))))
 
 -- parts have pages
 abbrev pub HasPages : Event → Type 0

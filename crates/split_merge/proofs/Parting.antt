@@ -16,7 +16,7 @@ use Rattle.area_list.proofs.Parts.{Apart, part, parts_apart, joins_touching, Eac
 use Rattle.area_list.proofs.Order.{Before}
 use Rattle.split_merge.specs.declared.becoming.Becoming.{Becoming}
 use Rattle.split_merge.specs.declared.becoming.Becoming.TheVariants.{Outside, Changed}
-use Rattle.split_merge.specs.Internal.Becoming.{low_of, high_of, parts_left, parts_outside_both, AreInOrder}
+use Rattle.split_merge.specs.Internal.Becoming.{lower_span, upper_span, parts_left, parts_outside_both, AreSpansInOrder}
 use Rattle.split_merge.proofs.Lists.{filter_nothing}
 use Rattle.split_merge.proofs.Walking.{InOrder, rest_in_order}
 use Rattle.split_merge.proofs.Pieces.{piece_some, piece_none, part_whole}
@@ -25,12 +25,12 @@ use Rattle.split_merge.proofs.Passing.{is_close, ascend}
 -- what holds of a part from one page up to another that lies outside both spans
 abbrev pub OutsideHas : (Record → Type 0) → Becoming → Record → Type 0
 OutsideHas P becoming area = (lo hi : ℕ) → area.span.lo ≤ lo → lo < hi → hi ≤ area.span.hi
-    → (hi ≤ (low_of becoming).lo) ⊎ ((low_of becoming).hi ≤ lo) → (hi ≤ (high_of becoming).lo) ⊎ ((high_of becoming).hi ≤ lo) → P (part area lo hi)
+    → (hi ≤ (lower_span becoming).lo) ⊎ ((lower_span becoming).hi ≤ lo) → (hi ≤ (upper_span becoming).lo) ⊎ ((upper_span becoming).hi ≤ lo) → P (part area lo hi)
 
 -- and of one within the lower span, with new attributes
 abbrev pub WithinHas : (Record → Type 0) → Becoming → Record → Type 0
 WithinHas P becoming area = (change : AttrChange) (lo hi : ℕ) → area.span.lo ≤ lo → lo < hi → hi ≤ area.span.hi
-    → (low_of becoming).lo ≤ lo → hi ≤ (low_of becoming).hi → P (with_attr change (part area lo hi))
+    → (lower_span becoming).lo ≤ lo → hi ≤ (lower_span becoming).hi → P (with_attr change (part area lo hi))
 
 Each-within : (P : Record → Type 0) (change : AttrChange) (area : Record) (lo hi : ℕ) → (lo < hi → P (with_attr change (part area lo hi)))
     → Each P (map (with_attr change) (piece area lo hi))
@@ -40,7 +40,7 @@ Each-within P change area lo hi holds =
     (λ some. (holds (ltb-true lo hi some), tt)) (λ none. tt)
 
 -- what holds of each part outside both spans
-pub Each-outside_both : (P : Record → Type 0) (low high : Span) (area : Record) → AreInOrder low high
+pub Each-outside_both : (P : Record → Type 0) (low high : Span) (area : Record) → AreSpansInOrder low high
     → OutsideHas P (Outside low high) area → Each P (parts_outside_both low high area)
 unfolding parts_outside_both
 Each-outside_both P low high area order outside =
@@ -56,7 +56,7 @@ Each-outside_both P low high area order outside =
     (λ some. outside (max area.span.lo high.hi) area.span.hi (omega arith) some (omega arith) (inr (omega (arith, spans.ends))) (inr (omega arith)))))
 
 -- what holds of each of the parts
-pub Each-parts : (P : Record → Type 0) (becoming : Becoming) (area : Record) → AreInOrder (low_of becoming) (high_of becoming)
+pub Each-parts : (P : Record → Type 0) (becoming : Becoming) (area : Record) → AreSpansInOrder (lower_span becoming) (upper_span becoming)
     → OutsideHas P becoming area → WithinHas P becoming area → Each P (parts_left becoming area)
 unfolding parts_changed
 Each-parts P (Outside low high) area order outside within = Each-outside_both P low high area order outside
@@ -77,7 +77,7 @@ pub record IsPartOf (area part : Record) : Type 0 where
   pub some : part.span.lo < part.span.hi
   pub high : part.span.hi ≤ area.span.hi
 
-pub parts_within : (becoming : Becoming) (area : Record) → AreInOrder (low_of becoming) (high_of becoming) → Each (IsPartOf area) (parts_left becoming area)
+pub parts_within : (becoming : Becoming) (area : Record) → AreSpansInOrder (lower_span becoming) (upper_span becoming) → Each (IsPartOf area) (parts_left becoming area)
 parts_within becoming area order = Each-parts (IsPartOf area) becoming area order
     (λ lo hi low some high below above. record { low = low; some = some; high = high })
     (λ change lo hi low some high from to. record { low = low; some = some; high = high })
@@ -88,7 +88,7 @@ Pairs-within change area lo hi =
     cond_both (nat_lt lo hi) (part area lo hi ∷ []) [] (λ list. Pairs Before (map (with_attr change) list)) (λ some. (tt, tt)) (λ none. tt)
 
 -- the parts ascend
-pub parts_ascend : (becoming : Becoming) (area : Record) → AreInOrder (low_of becoming) (high_of becoming) → Pairs Before (parts_left becoming area)
+pub parts_ascend : (becoming : Becoming) (area : Record) → AreSpansInOrder (lower_span becoming) (upper_span becoming) → Pairs Before (parts_left becoming area)
 unfolding parts_outside_both parts_changed
 parts_ascend (Outside low high) area order =
     let spans = ascend low high order in
@@ -139,8 +139,8 @@ whole_above area from valid above = ap (λ lo. piece area lo area.span.hi) lowes
     lowest = omega arith
 
 -- an area away from the spans stays as it is
-pub parts_away : (becoming : Becoming) (area : Record) → AreInOrder (low_of becoming) (high_of becoming) → IsValid area
-    → (area.span.hi ≤ (low_of becoming).lo) ⊎ ((low_of becoming).hi ≤ area.span.lo) → (area.span.hi ≤ (high_of becoming).lo) ⊎ ((high_of becoming).hi ≤ area.span.lo)
+pub parts_away : (becoming : Becoming) (area : Record) → AreSpansInOrder (lower_span becoming) (upper_span becoming) → IsValid area
+    → (area.span.hi ≤ (lower_span becoming).lo) ⊎ ((lower_span becoming).hi ≤ area.span.lo) → (area.span.hi ≤ (upper_span becoming).lo) ⊎ ((upper_span becoming).hi ≤ area.span.lo)
     → parts_left becoming area ≡ area ∷ []
 unfolding parts_outside_both parts_changed
 parts_away (Outside low high) area order valid (inl below) second =
@@ -209,14 +209,14 @@ protected_tests lo hi from to some ascends = grind (arith, nat_tests)
 
 -- the pages at which areas are split
 abbrev pub first_seam : Becoming → ℕ
-first_seam becoming = (low_of becoming).lo
+first_seam becoming = (lower_span becoming).lo
 
 abbrev pub second_seam : Becoming → ℕ
 second_seam (Outside low high) = high.lo
 second_seam (Changed span change) = span.hi
 
 -- an area has one part more for each of these that it straddles
-length-parts : (becoming : Becoming) (area : Record) → AreInOrder (low_of becoming) (high_of becoming) → IsValid area
+length-parts : (becoming : Becoming) (area : Record) → AreSpansInOrder (lower_span becoming) (upper_span becoming) → IsValid area
     → length (parts_left becoming area) ≤ 1 + one_if (straddles (first_seam becoming) area) + one_if (straddles (second_seam becoming) area)
 unfolding parts_outside_both parts_changed
 length-parts (Outside low high) area order valid = simp (length-append, length-piece)
@@ -256,7 +256,7 @@ abbrev pub counted : Becoming → List Record → ℕ
 counted becoming [] = 0
 counted becoming (area ∷ areas) = (if is_close becoming area then 1 + length (parts_left becoming area) else 0) + counted becoming areas
 
-counted_along : (becoming : Becoming) (areas : List Record) → AreInOrder (low_of becoming) (high_of becoming) → Each IsValid areas
+counted_along : (becoming : Becoming) (areas : List Record) → AreSpansInOrder (lower_span becoming) (upper_span becoming) → Each IsValid areas
     → counted becoming areas ≤ length (filter (is_close becoming) areas) + length (filter (is_close becoming) areas)
     + (length (filter (straddles (first_seam becoming)) areas) + length (filter (straddles (second_seam becoming)) areas))
 counted_along becoming [] order valid = omega arith
@@ -281,7 +281,7 @@ counted_along becoming (area ∷ areas) order valid = by (is_close becoming area
     by false rest = omega (arith, rest, length-straddled (first_seam becoming) area areas, length-straddled (second_seam becoming) area areas)
 
 -- two for each area near a span, and two more
-pub counted_short : (becoming : Becoming) (areas : List Record) → AreInOrder (low_of becoming) (high_of becoming) → InOrder areas
+pub counted_short : (becoming : Becoming) (areas : List Record) → AreSpansInOrder (lower_span becoming) (upper_span becoming) → InOrder areas
     → counted becoming areas ≤ length (filter (is_close becoming) areas) + length (filter (is_close becoming) areas) + 2
 counted_short becoming areas order o = omega (
   arith,
@@ -294,26 +294,26 @@ abbrev pub Unjoined : Record → Record → Type 0
 Unjoined a b = joins a b ≡ false
 
 -- a part joins no area that its own area lies apart from, and that no span whose pages change touches
-pub parts_below : (becoming : Becoming) (area other : Record) → AreInOrder (low_of becoming) (high_of becoming) → IsValid other → Apart area other
-    → (other.span.hi < (low_of becoming).lo) ⊎ ((low_of becoming).hi < other.span.lo) → Each (λ part. Unjoined part other) (parts_left becoming area)
+pub parts_below : (becoming : Becoming) (area other : Record) → AreSpansInOrder (lower_span becoming) (upper_span becoming) → IsValid other → Apart area other
+    → (other.span.hi < (lower_span becoming).lo) ⊎ ((lower_span becoming).hi < other.span.lo) → Each (λ part. Unjoined part other) (parts_left becoming area)
 parts_below becoming area other order valid apart away = Each-parts (λ part. Unjoined part other) becoming area order
     (λ lo hi low some high below above. subst (Unjoined (part area lo hi)) (part_whole other other.span.hi valid refl)
     ((parts_apart area other lo hi other.span.lo other.span.hi apart low some high (omega arith)).apart))
     (λ change lo hi low some high from to. joins_touching (with_attr change (part area lo hi)) other (touch lo hi some high from to away))
   where
-    touch : (lo hi : ℕ) → lo < hi → hi ≤ area.span.hi → (low_of becoming).lo ≤ lo → hi ≤ (low_of becoming).hi
-        → (other.span.hi < (low_of becoming).lo) ⊎ ((low_of becoming).hi < other.span.lo) → hi < other.span.lo
+    touch : (lo hi : ℕ) → lo < hi → hi ≤ area.span.hi → (lower_span becoming).lo ≤ lo → hi ≤ (lower_span becoming).hi
+        → (other.span.hi < (lower_span becoming).lo) ⊎ ((lower_span becoming).hi < other.span.lo) → hi < other.span.lo
     touch lo hi some high from to (inl below) = absurd (omega (arith, apart.order, valid.some_pages))
     touch lo hi some high from to (inr above) = omega arith
 
-pub parts_above : (becoming : Becoming) (area other : Record) → AreInOrder (low_of becoming) (high_of becoming) → IsValid other → Apart other area
-    → (other.span.hi < (low_of becoming).lo) ⊎ ((low_of becoming).hi < other.span.lo) → Each (Unjoined other) (parts_left becoming area)
+pub parts_above : (becoming : Becoming) (area other : Record) → AreSpansInOrder (lower_span becoming) (upper_span becoming) → IsValid other → Apart other area
+    → (other.span.hi < (lower_span becoming).lo) ⊎ ((lower_span becoming).hi < other.span.lo) → Each (Unjoined other) (parts_left becoming area)
 parts_above becoming area other order valid apart away = Each-parts (Unjoined other) becoming area order
     (λ lo hi low some high below above. subst (λ first. Unjoined first (part area lo hi)) (part_whole other other.span.hi valid refl)
     ((parts_apart other area other.span.lo other.span.hi lo hi apart (omega arith) valid.some_pages (omega arith) low).apart))
     (λ change lo hi low some high from to. joins_touching other (with_attr change (part area lo hi)) (touch lo hi some low from to away))
   where
-    touch : (lo hi : ℕ) → lo < hi → area.span.lo ≤ lo → (low_of becoming).lo ≤ lo → hi ≤ (low_of becoming).hi
-        → (other.span.hi < (low_of becoming).lo) ⊎ ((low_of becoming).hi < other.span.lo) → other.span.hi < lo
+    touch : (lo hi : ℕ) → lo < hi → area.span.lo ≤ lo → (lower_span becoming).lo ≤ lo → hi ≤ (lower_span becoming).hi
+        → (other.span.hi < (lower_span becoming).lo) ⊎ ((lower_span becoming).hi < other.span.lo) → other.span.hi < lo
     touch lo hi some low from to (inl below) = omega arith
     touch lo hi some low from to (inr above) = absurd (omega (arith, apart.order, valid.some_pages))

@@ -13,8 +13,8 @@ use Rattle.split_merge.specs.declared.becoming.Becoming.{Becoming}
 use Rattle.split_merge.specs.declared.planner.Merging.{Merging}
 use Rattle.split_merge.specs.declared.planner.Planner.{Planner}
 use Rattle.split_merge.specs.Plans.{is_near_either}
-use Rattle.split_merge.specs.Internal.Becoming.{low_of, high_of, parts_left, AreInOrder, BeginsOne}
-use Rattle.split_merge.specs.Internal.Planner.{Event, page_at, detaching, closing, settled, unsettled, planned_with, left, merging_with, along, come, come_in, planned, reached, reached_with, laid, weight, events_at, events_along}
+use Rattle.split_merge.specs.Internal.Becoming.{lower_span, upper_span, parts_left, AreSpansInOrder, BeginsOne}
+use Rattle.split_merge.specs.Internal.Planner.{Event, page_at, detaching, closing, merging_behind, unsettled, planned_with, left, merging_with, along, come, come_in, planned, reached, reached_with, laid, weight, events_at, events_along}
 use Rattle.split_merge.proofs.Lists.{filter_all, Each-filter, length-filter_at_most}
 use Rattle.split_merge.proofs.Ascending.{Pairs-filter}
 use Rattle.split_merge.proofs.Steps.{weight-append}
@@ -22,7 +22,7 @@ use Rattle.split_merge.proofs.Walking.{ending_above, InOrder, rest_in_order}
 
 -- whether an area is near a span whose pages change
 abbrev pub is_close : Becoming → Record → Bool
-is_close becoming area = is_near_either (low_of becoming) (high_of becoming) area
+is_close becoming area = is_near_either (lower_span becoming) (upper_span becoming) area
 
 pub events_close : (becoming : Becoming) (area : Record) → is_close becoming area ≡ true
     → events_at becoming area ≡ Event.Begins area ∷ map Event.Comes (parts_left becoming area)
@@ -85,8 +85,8 @@ all_passed : (becoming : Becoming) (pending : Option Record) (merging : Option M
 all_passed becoming pending merging [] far = refl
 all_passed becoming pending merging (area ∷ areas) far =
     ap (λ events. along pending merging (events ++ events_along becoming areas)) (events_far becoming area far.0)
-    ∙ ap (λ rest. (detaching (unsettled pending merging) ++ closing (settled pending merging)) ++ rest) (all_passed becoming None None areas far.1)
-    ∙ append-nil (detaching (unsettled pending merging) ++ closing (settled pending merging))
+    ∙ ap (λ rest. (detaching (unsettled pending merging) ++ closing (merging_behind pending merging)) ++ rest) (all_passed becoming None None areas far.1)
+    ∙ append-nil (detaching (unsettled pending merging) ++ closing (merging_behind pending merging))
 
 pub last_planned : (becoming : Becoming) (planner : Planner) (areas : List Record)
     → Each (λ area. (is_close becoming area ≡ false) × IfSome planner.coming (λ new. new.span.lo < area.span.lo)) areas
@@ -145,15 +145,15 @@ close_tests : (lo hi from to begin end : ℕ) → from ≤ hi → lo ≤ end →
 close_tests lo hi from to begin end low high either = grind (arith, nat_tests)
 
 -- an area away from both spans is passed over
-pub is_far : (becoming : Becoming) (area : Record) → (area.span.hi < (low_of becoming).lo) ⊎ ((low_of becoming).hi < area.span.lo)
-    → (area.span.hi < (high_of becoming).lo) ⊎ ((high_of becoming).hi < area.span.lo) → is_close becoming area ≡ false
+pub is_far : (becoming : Becoming) (area : Record) → (area.span.hi < (lower_span becoming).lo) ⊎ ((lower_span becoming).hi < area.span.lo)
+    → (area.span.hi < (upper_span becoming).lo) ⊎ ((upper_span becoming).hi < area.span.lo) → is_close becoming area ≡ false
 is_far becoming area low high =
-    apart_tests area.span.lo area.span.hi (low_of becoming).lo (low_of becoming).hi (high_of becoming).lo (high_of becoming).hi low high
+    apart_tests area.span.lo area.span.hi (lower_span becoming).lo (lower_span becoming).hi (upper_span becoming).lo (upper_span becoming).hi low high
 
-pub close_one : (becoming : Becoming) (area : Record) → (low_of becoming).lo ≤ area.span.hi → area.span.lo ≤ (high_of becoming).hi
-    → (area.span.lo ≤ (low_of becoming).hi) ⊎ ((high_of becoming).lo ≤ area.span.hi) → is_close becoming area ≡ true
+pub close_one : (becoming : Becoming) (area : Record) → (lower_span becoming).lo ≤ area.span.hi → area.span.lo ≤ (upper_span becoming).hi
+    → (area.span.lo ≤ (lower_span becoming).hi) ⊎ ((upper_span becoming).lo ≤ area.span.hi) → is_close becoming area ≡ true
 close_one becoming area low high either =
-    close_tests area.span.lo area.span.hi (low_of becoming).lo (low_of becoming).hi (high_of becoming).lo (high_of becoming).hi low high either
+    close_tests area.span.lo area.span.hi (lower_span becoming).lo (lower_span becoming).hi (upper_span becoming).lo (upper_span becoming).hi low high either
 
 -- the lower span begins and ends no higher than the upper
 pub record AreAscending (low high : Span) : Type 0 where
@@ -161,7 +161,7 @@ pub record AreAscending (low high : Span) : Type 0 where
   pub begins : low.lo ≤ high.lo
   pub ends : low.hi ≤ high.hi
 
-pub ascend : (low high : Span) → AreInOrder low high → AreAscending low high
+pub ascend : (low high : Span) → AreSpansInOrder low high → AreAscending low high
 ascend low high o = by o.one_or_below
   where
     by : (low ≡ high) ⊎ (low.hi ≤ high.lo) → AreAscending low high
@@ -172,12 +172,12 @@ ascend low high o = by o.one_or_below
     }
     by (inr below) = record { upwards = o.lower; begins = omega (arith, o.lower); ends = omega (arith, o.upper) }
 
-module _ (becoming : Becoming) (order : AreInOrder (low_of becoming) (high_of becoming)) where
-  spans : AreAscending (low_of becoming) (high_of becoming)
-  spans = ascend (low_of becoming) (high_of becoming) order
+module _ (becoming : Becoming) (order : AreSpansInOrder (lower_span becoming) (upper_span becoming)) where
+  spans : AreAscending (lower_span becoming) (upper_span becoming)
+  spans = ascend (lower_span becoming) (upper_span becoming) order
 
   -- the areas that end below the lower span
-  pub skipped_low : (coming : Option Record) (page : ℕ) (area : Record) → BeginsOne becoming coming → IsValid area → page ≡ (low_of becoming).lo - 1
+  pub skipped_low : (coming : Option Record) (page : ℕ) (area : Record) → BeginsOne becoming coming → IsValid area → page ≡ (lower_span becoming).lo - 1
       → area.span.hi ≤ page → IsSkipped becoming coming area
   skipped_low coming page area begins valid is below = record {
     far = is_far becoming area (inl (omega (arith, valid.some_pages))) (inl (omega (arith, valid.some_pages, spans.begins)));
@@ -190,19 +190,19 @@ module _ (becoming : Becoming) (order : AreInOrder (low_of becoming) (high_of be
       by (Some new) (inr high) = omega (arith, valid.some_pages, spans.begins)
 
   -- those between the two spans
-  pub skipped_between : (coming : Option Record) (from : ℕ) (area : Record) → IfSome coming (λ new. new.span.lo ≡ (high_of becoming).lo) → IsValid area
-      → (low_of becoming).hi < from → from ≤ area.span.lo → area.span.hi < (high_of becoming).lo → IsSkipped becoming coming area
+  pub skipped_between : (coming : Option Record) (from : ℕ) (area : Record) → IfSome coming (λ new. new.span.lo ≡ (upper_span becoming).lo) → IsValid area
+      → (lower_span becoming).hi < from → from ≤ area.span.lo → area.span.hi < (upper_span becoming).lo → IsSkipped becoming coming area
   skipped_between coming from area begins valid after low high = record {
     far = is_far becoming area (inr (omega arith)) (inl high);
     later = by coming begins;
   }
     where
-      by : (coming : Option Record) → IfSome coming (λ new. new.span.lo ≡ (high_of becoming).lo) → IfSome coming (λ new. area.span.lo ≤ new.span.lo)
+      by : (coming : Option Record) → IfSome coming (λ new. new.span.lo ≡ (upper_span becoming).lo) → IfSome coming (λ new. area.span.lo ≤ new.span.lo)
       by None begins = tt
       by (Some new) is = omega (arith, valid.some_pages)
 
   -- and those above the upper one
-  pub passed_high : (coming : Option Record) (area : Record) → BeginsOne becoming coming → (high_of becoming).hi < area.span.lo
+  pub passed_high : (coming : Option Record) (area : Record) → BeginsOne becoming coming → (upper_span becoming).hi < area.span.lo
       → (is_close becoming area ≡ false) × IfSome coming (λ new. new.span.lo < area.span.lo)
   passed_high coming area begins above = (is_far becoming area (inr (omega (arith, spans.ends))) (inr above), by coming begins)
     where
@@ -212,16 +212,16 @@ module _ (becoming : Becoming) (order : AreInOrder (low_of becoming) (high_of be
       by (Some new) (inr high) = omega (arith, order.upper)
 
   -- where an area between the two is passed over, the new area begins with the upper span, if it is still to come
-  pub coming_high : (planner : Planner) (page : ℕ) → BeginsOne becoming planner.coming → (low_of becoming).hi < page
-      → IfSome (reached planner page).coming (λ new. new.span.lo ≡ (high_of becoming).lo)
+  pub coming_high : (planner : Planner) (page : ℕ) → BeginsOne becoming planner.coming → (lower_span becoming).hi < page
+      → IfSome (reached planner page).coming (λ new. new.span.lo ≡ (upper_span becoming).lo)
   coming_high planner page begins after = by planner.coming begins refl
     where
       by : (coming : Option Record) → BeginsOne becoming coming → planner.coming ≡ coming
-          → IfSome (reached_with coming planner page).coming (λ new. new.span.lo ≡ (high_of becoming).lo)
-      by None begins is = subst (λ (c : Option Record). IfSome c (λ new. new.span.lo ≡ (high_of becoming).lo)) (sym is) tt
+          → IfSome (reached_with coming planner page).coming (λ new. new.span.lo ≡ (upper_span becoming).lo)
+      by None begins is = subst (λ (c : Option Record). IfSome c (λ new. new.span.lo ≡ (upper_span becoming).lo)) (sym is) tt
       by (Some new) (inr high) is = cond_both (nat_lt new.span.lo page) (laid (record planner { coming = None }) new) planner
-          (λ (p : Planner). IfSome p.coming (λ other. other.span.lo ≡ (high_of becoming).lo))
-          (λ below. tt) (λ above. subst (λ (c : Option Record). IfSome c (λ other. other.span.lo ≡ (high_of becoming).lo)) (sym is) high)
+          (λ (p : Planner). IfSome p.coming (λ other. other.span.lo ≡ (upper_span becoming).lo))
+          (λ below. tt) (λ above. subst (λ (c : Option Record). IfSome c (λ other. other.span.lo ≡ (upper_span becoming).lo)) (sym is) high)
       by (Some new) (inl low) is = cond_both (nat_lt new.span.lo page) (laid (record planner { coming = None }) new) planner
-          (λ (p : Planner). IfSome p.coming (λ other. other.span.lo ≡ (high_of becoming).lo))
+          (λ (p : Planner). IfSome p.coming (λ other. other.span.lo ≡ (upper_span becoming).lo))
           (λ below. tt) (λ above. absurd (omega (arith, ltb-false new.span.lo page above, spans.upwards)))

@@ -7,8 +7,7 @@ use Rattle.mm_types.specs.declared.area.Prot.{Prot}
 use Rattle.mm_types.specs.declared.area.Record.{Record}
 use Rattle.area_list.specs.declared.attributes.AttrChange.TheVariants.{Protection}
 use Rattle.area_list.specs.Areas.{IsCanonical}
-use Rattle.area_rules.specs.Mprotect.{stop_of, protected_prefix}
-use Rattle.area_rules.specs.Laws.{prefix_of}
+use Rattle.area_rules.specs.Mprotect.{stop_of, protected_prefix, prefix_of}
 use Rattle.area_list.proofs.Elements.{Each-weaker, Each-always}
 use Rattle.area_rules.proofs.ProtectLaws.{stop_is, prefix_canonical}
 use Rattle.split_merge.specs.declared.plan.Change.{Change}

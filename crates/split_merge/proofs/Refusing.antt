@@ -11,7 +11,7 @@ use Rattle.area_rules.specs.Munmap.{range_of}
 use Rattle.area_rules.specs.Placement.{bounds_of}
 use Rattle.area_rules.specs.Tables.{pages_of, is_aligned}
 use Rattle.split_merge.specs.declared.plan.Change.{Change}
-use Rattle.split_merge.specs.Plans.{IsLocal, applied, Makes, IsKept}
+use Rattle.split_merge.specs.Plans.{IsLocal, applied, Makes, IsPlannedFor}
 
 applied_none : (areas : List Record) → applied [] areas ≡ areas
 unfolding applied
@@ -59,15 +59,15 @@ range_within config bounds addr len range numbers aligned within is =
 
 -- a sound list is kept by the numbers of its configuration
 pub kept_if_sound : (config : Config) (bounds : Bounds) (most : ℕ) (plan : List Change) (areas list : List Record) → bounds ≡ bounds_of config
-    → most ≡ config.areas → applied plan areas ≡ list → IsSound config list → IsKept bounds most (applied plan areas)
+    → most ≡ config.areas → applied plan areas ≡ list → IsSound config list → IsPlannedFor bounds most (applied plan areas)
 kept_if_sound config bounds most plan areas list numbers allowed is sound =
-    subst (λ (after : List Record). IsKept bounds most after) (sym is) (record {
+    subst (λ (after : List Record). IsPlannedFor bounds most after) (sym is) (record {
       canonical = subst (λ (b : Bounds). IsCanonical b.limit list) (sym numbers) sound.canonical;
       few = omega (arith, sound.few, allowed);
     })
 
 -- an empty plan keeps the list
 pub nothing_kept : (config : Config) (bounds : Bounds) (most : ℕ) (plan : List Change) (areas : List Record) → bounds ≡ bounds_of config
-    → most ≡ config.areas → plan ≡ [] → IsSound config areas → IsKept bounds most (applied plan areas)
+    → most ≡ config.areas → plan ≡ [] → IsSound config areas → IsPlannedFor bounds most (applied plan areas)
 nothing_kept config bounds most plan areas numbers allowed none sound = kept_if_sound config bounds most plan areas areas numbers allowed
     (ap (λ changes. applied changes areas) none ∙ applied_none areas) sound

@@ -14,7 +14,7 @@ use Rattle.area_list.proofs.Order.{pairs_from_canonical}
 use Rattle.split_merge.specs.declared.becoming.Becoming.{Becoming}
 use Rattle.split_merge.specs.declared.becoming.Becoming.TheVariants.{Outside}
 use Rattle.split_merge.specs.Plans.{olds_of, is_near, Makes, IsLocal, IsLocalToEither}
-use Rattle.split_merge.specs.Internal.Becoming.{low_of, high_of, parts_left, AreInOrder}
+use Rattle.split_merge.specs.Internal.Becoming.{lower_span, upper_span, parts_left, AreSpansInOrder}
 use Rattle.split_merge.specs.Internal.Planner.{Event, along, come, events_at, events_along, all_planned}
 use Rattle.split_merge.proofs.Lists.{length-filter_wider}
 use Rattle.split_merge.proofs.Walking.{in_order}
@@ -49,18 +49,18 @@ neither true b h = cc
 
 -- an area that is passed over lies away from both spans
 record IsAway (becoming : Becoming) (area : Record) : Type 0 where
-  low : (area.span.hi < (low_of becoming).lo) ⊎ ((low_of becoming).hi < area.span.lo)
-  high : (area.span.hi < (high_of becoming).lo) ⊎ ((high_of becoming).hi < area.span.lo)
+  low : (area.span.hi < (lower_span becoming).lo) ⊎ ((lower_span becoming).hi < area.span.lo)
+  high : (area.span.hi < (upper_span becoming).lo) ⊎ ((upper_span becoming).hi < area.span.lo)
 
 is_away : (becoming : Becoming) (area : Record) → is_close becoming area ≡ false → IsAway becoming area
-is_away becoming area far = let both = neither (is_near (low_of becoming) area) (is_near (high_of becoming) area) far in
-    record { low = away_from (low_of becoming) area both.0; high = away_from (high_of becoming) area both.1 }
+is_away becoming area far = let both = neither (is_near (lower_span becoming) area) (is_near (upper_span becoming) area) far in
+    record { low = away_from (lower_span becoming) area both.0; high = away_from (upper_span becoming) area both.1 }
 
 less_or : {a b c d : ℕ} → (a < b) ⊎ (c < d) → (a ≤ b) ⊎ (c ≤ d)
 less_or (inl below) = inl (omega (arith, below))
 less_or (inr above) = inr (omega (arith, above))
 
-alone : (becoming : Becoming) (areas : List Record) → AreInOrder (low_of becoming) (high_of becoming) → IsAlone becoming areas
+alone : (becoming : Becoming) (areas : List Record) → AreSpansInOrder (lower_span becoming) (upper_span becoming) → IsAlone becoming areas
 alone becoming areas order = record {
   below = λ area other valid v apart far. parts_below becoming area other order v apart (is_away becoming other far).low;
   above = λ area other valid v apart far. parts_above becoming area other order v apart (is_away becoming other far).low;
@@ -78,7 +78,7 @@ pub record FitsIn (events : List Event) (new : Record) : Type 0 where
   pub clear : Each (IsClear new) events
 
 -- the new area takes the pages of a span that go
-pub fits_in : (low high : Span) (areas : List Record) (new : Record) → AreInOrder low high → Each IsValid areas → new.span.lo < new.span.hi
+pub fits_in : (low high : Span) (areas : List Record) (new : Record) → AreSpansInOrder low high → Each IsValid areas → new.span.lo < new.span.hi
     → (new.span ≡ low) ⊎ (new.span ≡ high) → FitsIn (events_along (Outside low high) areas) new
 fits_in low high areas new order valid some is = record {
   some = some;
@@ -123,7 +123,7 @@ record AreSound (areas : List Record) (events : List Event) (parts : List Record
   olds : olds_in events ≡ areas
   list : parts_in events ≡ parts
 
-sound : (end : ℕ) (becoming : Becoming) (areas : List Record) → IsCanonical end areas → AreInOrder (low_of becoming) (high_of becoming)
+sound : (end : ℕ) (becoming : Becoming) (areas : List Record) → IsCanonical end areas → AreSpansInOrder (lower_span becoming) (upper_span becoming)
     → AreSound areas (events_along becoming areas) (flat_map (parts_left becoming) areas)
 sound end becoming areas c order = let o = in_order end areas c in record {
   ordered = along_ascends becoming areas order o;
@@ -148,7 +148,7 @@ sound_with areas events parts (Some new) s fits = record {
 }
 
 -- the plan makes the merge of what becomes of the areas, with the new area in its place
-pub plan_makes : (end : ℕ) (becoming : Becoming) (new : Option Record) (areas list : List Record) → IsCanonical end areas → AreInOrder (low_of becoming) (high_of becoming)
+pub plan_makes : (end : ℕ) (becoming : Becoming) (new : Option Record) (areas list : List Record) → IsCanonical end areas → AreSpansInOrder (lower_span becoming) (upper_span becoming)
     → IfSome new (FitsIn (events_along becoming areas)) → list ≡ merge (with_new new (flat_map (parts_left becoming) areas)) → IsCanonical end list
     → Makes (all_planned becoming new areas) areas list
 plan_makes end becoming new areas list c order fits is after =
@@ -172,8 +172,8 @@ begun_close becoming (area ∷ areas) =
     by false far = subst (λ events. Each (λ a. is_close becoming a ≡ true) (begun_in events)) (sym (events_far becoming area far)) tt
 
 -- the plan is local to the two spans
-pub plan_local_either : (end : ℕ) (becoming : Becoming) (new : Option Record) (areas : List Record) → IsCanonical end areas → AreInOrder (low_of becoming) (high_of becoming)
-    → IsLocalToEither (low_of becoming) (high_of becoming) areas (all_planned becoming new areas)
+pub plan_local_either : (end : ℕ) (becoming : Becoming) (new : Option Record) (areas : List Record) → IsCanonical end areas → AreSpansInOrder (lower_span becoming) (upper_span becoming)
+    → IsLocalToEither (lower_span becoming) (upper_span becoming) areas (all_planned becoming new areas)
 plan_local_either end becoming new areas c order = record {
   near = All-from_recursion (λ old. is_close becoming old ≡ true) (olds_of (all_planned becoming new areas))
       (changes_olds (λ old. is_close becoming old ≡ true) (come new (events_along becoming areas))
@@ -192,7 +192,7 @@ same_either false h = h
 
 -- and to one, where they are one
 pub plan_local : (end : ℕ) (becoming : Becoming) (span : Span) (new : Option Record) (areas : List Record) → IsCanonical end areas
-    → AreInOrder (low_of becoming) (high_of becoming) → low_of becoming ≡ span → high_of becoming ≡ span → IsLocal span areas (all_planned becoming new areas)
+    → AreSpansInOrder (lower_span becoming) (upper_span becoming) → lower_span becoming ≡ span → upper_span becoming ≡ span → IsLocal span areas (all_planned becoming new areas)
 plan_local end becoming span new areas c order low high = record {
   near = All-from_recursion (λ old. is_near span old ≡ true) (olds_of (all_planned becoming new areas))
       (changes_olds (λ old. is_near span old ≡ true) (come new (events_along becoming areas))
@@ -209,7 +209,7 @@ plan_local end becoming span new areas c order low high = record {
   where
     one : (area : Record) → is_close becoming area ≡ true → is_near span area ≡ true
     one area close = same_either (is_near span area)
-        (ap (λ s. is_near span area || is_near s area) (sym high) ∙ ap (λ s. is_near s area || is_near (high_of becoming) area) (sym low) ∙ close)
+        (ap (λ s. is_near span area || is_near s area) (sym high) ∙ ap (λ s. is_near s area || is_near (upper_span becoming) area) (sym low) ∙ close)
 
 -- areas that do not join stay as they are in a merge
 merge_from_nothing : (first : Record) (areas : List Record) → Pairs Unjoined (first ∷ areas) → merge_from first areas ≡ first ∷ areas

@@ -19,12 +19,12 @@ use Rattle.area_list.proofs.Cutting.{cut_canonical, page_map-cut}
 use Rattle.area_list.proofs.Putting.{put_canonical, page_map-put}
 use Rattle.area_list.proofs.Uniqueness.{canonical_unique}
 use Rattle.split_merge.specs.declared.becoming.Becoming.TheVariants.{Outside}
-use Rattle.split_merge.specs.Internal.Becoming.{parts_outside_both, AreInOrder}
+use Rattle.split_merge.specs.Internal.Becoming.{parts_outside_both, AreSpansInOrder}
 use Rattle.split_merge.proofs.Pieces.{piece_some, piece_none}
 use Rattle.split_merge.proofs.Parting.{Unjoined, parts_away}
 use Rattle.split_merge.proofs.Results.{merge_nothing}
 
-pub one_in_order : (span : Span) → span.lo ≤ span.hi → AreInOrder span span
+pub one_in_order : (span : Span) → span.lo ≤ span.hi → AreSpansInOrder span span
 one_in_order span some = record { lower = some; upper = some; one_or_below = inl refl }
 
 -- outside one span, twice
@@ -193,7 +193,7 @@ apart_spans a b both some_a some_b apart is = subst (λ (pair : Span × Span). A
       some_high = some_a;
     }))
 
-pub apart_in_order : (hole place low high : Span) → AreApart hole place low high → AreInOrder low high
+pub apart_in_order : (hole place low high : Span) → AreApart hole place low high → AreSpansInOrder low high
 apart_in_order hole place low high o = record {
   lower = omega (arith, o.some_low);
   upper = omega (arith, o.some_high);

@@ -12,7 +12,7 @@ use Rattle.split_merge.specs.declared.plan.Change.TheVariants.{Alter}
 use Rattle.split_merge.specs.declared.planner.Merging.{Merging}
 use Rattle.split_merge.specs.declared.planner.Planner.{Planner}
 use Rattle.split_merge.specs.Plans.{PlanView}
-use Rattle.split_merge.specs.Internal.Planner.{Event, page_at, same_area, detaching, replacing, closing, taken, left, spare, left_over, settled, unsettled, planned_with, along, come, come_in, laid, reached, reached_with, reaching, reaching_with, held, weight, GoesAlong}
+use Rattle.split_merge.specs.Internal.Planner.{Event, page_at, same_area, detaching, replacing, closing, taken, left, spare, left_over, merging_behind, unsettled, planned_with, along, come, come_in, laid, reached, reached_with, reaching, reaching_with, changes_left, weight, GoesAlong}
 
 -- attributes are the same where areas with them would join
 same_attrs : (a b : Attr) → same_attr a b ≡ true → a ≡ b
@@ -89,22 +89,22 @@ left_over_short None (Some old) new = by (nat_lt old.span.lo new.span.hi)
 
 -- what is settled brings no change more
 pub settled_short : (pending : Option Record) (merging : Option Merging)
-    → option_len (unsettled pending merging) + option_len (settled pending merging) ≤ option_len pending + option_len merging
+    → option_len (unsettled pending merging) + option_len (merging_behind pending merging) ≤ option_len pending + option_len merging
 settled_short pending None = omega arith
 settled_short pending (Some merging) = omega (arith, left_over_short merging.replaces pending merging.area)
 
 -- where the planner reaches a page, it holds no more
-pub reach_short : (planner : Planner) (page : ℕ) → length (reaching planner page) + held (reached planner page) ≤ held planner
+pub reach_short : (planner : Planner) (page : ℕ) → length (reaching planner page) + changes_left (reached planner page) ≤ changes_left planner
 reach_short planner page = by planner.coming refl
   where
     by : (coming : Option Record) → planner.coming ≡ coming
-        → length (reaching_with coming planner page) + held (reached_with coming planner page) ≤ held planner
+        → length (reaching_with coming planner page) + changes_left (reached_with coming planner page) ≤ changes_left planner
     by None is = omega arith
     by (Some new) is = test (nat_lt new.span.lo page)
       where
         test : (below : Bool)
             → length (if below then planned_with planner.pending planner.merging new else [])
-            + held (if below then laid (record planner { coming = None }) new else planner) ≤ held planner
+            + changes_left (if below then laid (record planner { coming = None }) new else planner) ≤ changes_left planner
         test true = omega (arith, laid_short planner.pending planner.merging new, ap (λ (c : Option Record). option_len c) is)
         test false = omega arith
 
@@ -153,7 +153,7 @@ reach_planned planner event later = by planner.coming refl
 -- a step: the page of what comes is reached, and then this is planned
 step : (event : Event) (planner : Planner) (rest : Planner → Planner) (more : Planner → List Change) (old : PlanView)
     → ((q : Planner) (later : List Event) → more q ++ along (rest q).pending (rest q).merging (come (rest q).coming later) ≡ along q.pending q.merging (event ∷ come q.coming later))
-    → ((q : Planner) → length (more q) + held (rest q) ≤ held q + weight (event ∷ []))
+    → ((q : Planner) → length (more q) + changes_left (rest q) ≤ changes_left q + weight (event ∷ []))
     → ((q : Planner) → (rest q).coming ≡ q.coming)
     → GoesAlong (event ∷ []) planner (rest (reached planner (page_at event))) old
     (record old { changes = (old.changes ++ reaching planner (page_at event)) ++ more (reached planner (page_at event)) })
@@ -182,7 +182,7 @@ step event planner rest more old plans holds keeps =
     kept (inr same) = inr (keeps (reached planner (page_at event)) ∙ same)
 
 pub begin_goes : (planner next last : Planner) (area : Record) (old mid new : PlanView) → next ≡ reached planner area.span.lo
-    → mid ≡ record old { changes = old.changes ++ reaching planner area.span.lo } → last ≡ record next { pending = None; merging = settled next.pending next.merging }
+    → mid ≡ record old { changes = old.changes ++ reaching planner area.span.lo } → last ≡ record next { pending = None; merging = merging_behind next.pending next.merging }
     → new ≡ record mid { changes = mid.changes ++ detaching (unsettled next.pending next.merging) }
     → GoesAlong (Event.Begins area ∷ []) planner (record last { pending = Some area }) old new
 begin_goes planner next last area old mid new reach first settle second =
@@ -190,9 +190,9 @@ begin_goes planner next last area old mid new reach first settle second =
     (sym (second ∙ ap (λ (plan : PlanView). record plan { changes = plan.changes ++ detaching (unsettled next.pending next.merging) }) first))
     (subst (λ (q : Planner). GoesAlong (Event.Begins area ∷ []) planner (record q { pending = Some area }) old
     (record old { changes = (old.changes ++ reaching planner area.span.lo) ++ detaching (unsettled next.pending next.merging) })) (sym settle)
-    (subst (λ (q : Planner). GoesAlong (Event.Begins area ∷ []) planner (record q { pending = Some area; merging = settled q.pending q.merging }) old
+    (subst (λ (q : Planner). GoesAlong (Event.Begins area ∷ []) planner (record q { pending = Some area; merging = merging_behind q.pending q.merging }) old
     (record old { changes = (old.changes ++ reaching planner area.span.lo) ++ detaching (unsettled q.pending q.merging) })) (sym reach)
-    (step (Event.Begins area) planner (λ q. record q { pending = Some area; merging = settled q.pending q.merging }) (λ q. detaching (unsettled q.pending q.merging)) old
+    (step (Event.Begins area) planner (λ q. record q { pending = Some area; merging = merging_behind q.pending q.merging }) (λ q. detaching (unsettled q.pending q.merging)) old
     (λ q later. refl) (λ q. omega (arith, length-detaching (unsettled q.pending q.merging), settled_short q.pending q.merging)) (λ q. refl))))
 
 pub come_to_goes : (planner next last : Planner) (part : Record) (old mid new : PlanView) → next ≡ reached planner part.span.lo
@@ -210,7 +210,7 @@ come_to_goes planner next last part old mid new reach first lay second =
     (λ q later. refl) (λ q. omega (arith, laid_short q.pending q.merging part)) (λ q. refl))))
 
 pub pass_goes : (planner next last : Planner) (area : Record) (old mid more new : PlanView) → next ≡ reached planner area.span.lo
-    → mid ≡ record old { changes = old.changes ++ reaching planner area.span.lo } → last ≡ record next { pending = None; merging = settled next.pending next.merging }
+    → mid ≡ record old { changes = old.changes ++ reaching planner area.span.lo } → last ≡ record next { pending = None; merging = merging_behind next.pending next.merging }
     → more ≡ record mid { changes = mid.changes ++ detaching (unsettled next.pending next.merging) }
     → new ≡ record more { changes = more.changes ++ closing last.merging }
     → GoesAlong (Event.Passed area ∷ []) planner (record last { merging = None }) old new
@@ -222,15 +222,15 @@ pass_goes planner next last area old mid more new reach first settle second thir
     (subst (λ (q : Planner). GoesAlong (Event.Passed area ∷ []) planner (record q { merging = None }) old
     (record old { changes = (old.changes ++ reaching planner area.span.lo) ++ (detaching (unsettled next.pending next.merging) ++ closing q.merging) })) (sym settle)
     (subst (λ (q : Planner). GoesAlong (Event.Passed area ∷ []) planner (record q { pending = None; merging = None }) old
-    (record old { changes = (old.changes ++ reaching planner area.span.lo) ++ (detaching (unsettled q.pending q.merging) ++ closing (settled q.pending q.merging)) })) (sym reach)
+    (record old { changes = (old.changes ++ reaching planner area.span.lo) ++ (detaching (unsettled q.pending q.merging) ++ closing (merging_behind q.pending q.merging)) })) (sym reach)
     (step (Event.Passed area) planner (λ q. record q { pending = None; merging = None })
-    (λ q. detaching (unsettled q.pending q.merging) ++ closing (settled q.pending q.merging)) old
+    (λ q. detaching (unsettled q.pending q.merging) ++ closing (merging_behind q.pending q.merging)) old
     (λ q later. refl)
     (λ q. omega (
       arith,
-      length-append (detaching (unsettled q.pending q.merging)) (closing (settled q.pending q.merging)),
+      length-append (detaching (unsettled q.pending q.merging)) (closing (merging_behind q.pending q.merging)),
       length-detaching (unsettled q.pending q.merging),
-      length-closing (settled q.pending q.merging),
+      length-closing (merging_behind q.pending q.merging),
       settled_short q.pending q.merging,
     )) (λ q. refl))))
 
@@ -263,20 +263,20 @@ goes_on xs ys {planner = planner} {next = next} {last = last} {old = old} first 
 
 -- the room that is left where a page is reached
 pub reach_room : (planner next : Planner) (page : ℕ) (old mid : PlanView) → next ≡ reached planner page
-    → mid ≡ record old { changes = old.changes ++ reaching planner page } → (more : ℕ) → length old.changes + (held planner + more) ≤ old.room
-    → length mid.changes + (held next + more) ≤ mid.room
+    → mid ≡ record old { changes = old.changes ++ reaching planner page } → (more : ℕ) → length old.changes + (changes_left planner + more) ≤ old.room
+    → length mid.changes + (changes_left next + more) ≤ mid.room
 reach_room planner next page old mid reach first more room = omega (
   arith,
   ap (λ (plan : PlanView). length plan.changes) first,
   ap (λ (plan : PlanView). plan.room) first,
   length-append old.changes (reaching planner page),
-  ap (λ (p : Planner). held p) reach,
+  ap (λ (p : Planner). changes_left p) reach,
   reach_short planner page,
   room,
 )
 
 -- the room that is left where the pending old area was settled
-pub settle_room : (planner next : Planner) (mid new : PlanView) (more : ℕ) → next ≡ record planner { pending = None; merging = settled planner.pending planner.merging }
+pub settle_room : (planner next : Planner) (mid new : PlanView) (more : ℕ) → next ≡ record planner { pending = None; merging = merging_behind planner.pending planner.merging }
     → new ≡ record mid { changes = mid.changes ++ detaching (unsettled planner.pending planner.merging) }
     → length mid.changes + (option_len planner.pending + (option_len planner.merging + more)) ≤ mid.room → length new.changes + (option_len next.merging + more) ≤ new.room
 settle_room planner next mid new more settle is room = omega (
@@ -292,7 +292,7 @@ settle_room planner next mid new more settle is room = omega (
 
 -- the room that is left at the end, after the new area if that is still to come
 pub last_room : (planner next : Planner) (new : Record) (old mid : PlanView) → planner.coming ≡ Some new → next ≡ laid planner new
-    → mid ≡ record old { changes = old.changes ++ planned_with planner.pending planner.merging new } → length old.changes + held planner ≤ old.room
+    → mid ≡ record old { changes = old.changes ++ planned_with planner.pending planner.merging new } → length old.changes + changes_left planner ≤ old.room
     → length mid.changes + (option_len next.pending + option_len next.merging) ≤ mid.room
 last_room planner next new old mid coming lay is room = omega (
   arith,
@@ -306,7 +306,7 @@ last_room planner next new old mid coming lay is room = omega (
   room,
 )
 
-pub same_room : (planner next : Planner) (old mid : PlanView) → next ≡ planner → mid ≡ old → length old.changes + held planner ≤ old.room
+pub same_room : (planner next : Planner) (old mid : PlanView) → next ≡ planner → mid ≡ old → length old.changes + changes_left planner ≤ old.room
     → length mid.changes + (option_len next.pending + option_len next.merging) ≤ mid.room
 same_room planner next old mid same is room = omega (
   arith,
@@ -326,5 +326,5 @@ comes_on xs ys {planner = planner} {last = last} {old = old} {newest = newest} f
 
 -- the room that is left for others where the planner came to some parts
 pub comes_room : (xs ys : List Record) {planner next : Planner} {old new : PlanView} → GoesAlong (map Event.Comes xs) planner next old new
-    → length old.changes + (held planner + length (xs ++ ys)) ≤ old.room → length new.changes + (held next + length ys) ≤ new.room
+    → length old.changes + (changes_left planner + length (xs ++ ys)) ≤ old.room → length new.changes + (changes_left next + length ys) ≤ new.room
 comes_room xs ys g room = omega (arith, g.within, g.room, weight-comes xs, length-append xs ys, room)

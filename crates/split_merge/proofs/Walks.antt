@@ -9,22 +9,22 @@ use Rattle.split_merge.specs.declared.becoming.Becoming.{Becoming}
 use Rattle.split_merge.specs.declared.planner.Planner.{Planner}
 use Rattle.split_merge.specs.Finding.{first_from}
 use Rattle.split_merge.specs.Plans.{PlanView}
-use Rattle.split_merge.specs.Internal.Becoming.{low_of, high_of, parts_left, AreInOrder, BeginsOne}
-use Rattle.split_merge.specs.Internal.Planner.{Event, along, come, planned, held, weight, events_at, events_along, all_planned, GoesAlong}
+use Rattle.split_merge.specs.Internal.Becoming.{lower_span, upper_span, parts_left, AreSpansInOrder, BeginsOne}
+use Rattle.split_merge.specs.Internal.Planner.{Event, along, come, planned, changes_left, weight, events_at, events_along, all_planned, GoesAlong}
 use Rattle.split_merge.proofs.Walking.{ending_above, each_ending_above, InOrder, Spares, IsNext, none_above}
 use Rattle.split_merge.proofs.Lists.{length-filter_at_most}
 use Rattle.split_merge.proofs.Steps.{weight-append, weight-comes}
 use Rattle.split_merge.proofs.Passing.{is_close, events_close, events_far, is_far, close_one, IsSkipped, skipped, skipped_weight, skipped_low, skipped_between, passed_high, last_planned, ending_higher, in_order_above}
 use Rattle.split_merge.proofs.Parting.{counted, counted_short}
 
-module _ (becoming : Becoming) (spans : AreInOrder (low_of becoming) (high_of becoming)) (areas : List Record) (order : InOrder areas) where
+module _ (becoming : Becoming) (spans : AreSpansInOrder (lower_span becoming) (upper_span becoming)) (areas : List Record) (order : InOrder areas) where
   -- what the areas above a page bring
   abbrev pub rest_from : ℕ → List Event
   rest_from page = events_along becoming (ending_above page areas)
 
   -- at the begin nothing is planned
   pub first_planned : (new : Option Record) (planner : Planner) (page : ℕ) → BeginsOne becoming new → planner ≡ record { coming = new; pending = None; merging = None }
-      → page ≡ (low_of becoming).lo - 1 → planned planner (rest_from page) ≡ all_planned becoming new areas
+      → page ≡ (lower_span becoming).lo - 1 → planned planner (rest_from page) ≡ all_planned becoming new areas
   first_planned new planner page begins is low =
       ap (λ (p : Planner). planned p (rest_from page)) is
       ∙ sym (skipped becoming new page areas order
@@ -32,8 +32,8 @@ module _ (becoming : Becoming) (spans : AreInOrder (low_of becoming) (high_of be
       (λ area valid below. skipped_low becoming spans new page area begins valid low below) areas order.valid))
 
   -- the next area is near a span
-  pub next_close : (page : ℕ) (area : Record) → IsNext areas page area → (low_of becoming).lo ≤ page + 1 → area.span.lo ≤ (high_of becoming).hi
-      → (area.span.lo ≤ (low_of becoming).hi) ⊎ ((high_of becoming).lo ≤ area.span.hi)
+  pub next_close : (page : ℕ) (area : Record) → IsNext areas page area → (lower_span becoming).lo ≤ page + 1 → area.span.lo ≤ (upper_span becoming).hi
+      → (area.span.lo ≤ (lower_span becoming).hi) ⊎ ((upper_span becoming).lo ≤ area.span.hi)
       → rest_from page ≡ (Event.Begins area ∷ map Event.Comes (parts_left becoming area)) ++ rest_from area.span.hi
   next_close page area n low high either =
       ap (events_along becoming) n.rest
@@ -47,11 +47,11 @@ module _ (becoming : Becoming) (spans : AreInOrder (low_of becoming) (high_of be
 
   pub next_within : (page from : ℕ) (events : List Event) {planner next : Planner} {old new : PlanView} → GoesAlong events planner next old new
       → rest_from page ≡ events ++ rest_from from
-      → length new.changes + (held next + weight (rest_from from)) ≤ length old.changes + (held planner + weight (rest_from page))
+      → length new.changes + (changes_left next + weight (rest_from from)) ≤ length old.changes + (changes_left planner + weight (rest_from page))
   next_within page from events goes is = omega (arith, goes.within, ap weight is, weight-append events (rest_from from))
 
   -- the next area lies between the two spans
-  pub next_far : (page : ℕ) (area : Record) → IsNext areas page area → (low_of becoming).hi < area.span.lo → area.span.hi < (high_of becoming).lo
+  pub next_far : (page : ℕ) (area : Record) → IsNext areas page area → (lower_span becoming).hi < area.span.lo → area.span.hi < (upper_span becoming).lo
       → rest_from page ≡ (Event.Passed area ∷ []) ++ rest_from area.span.hi
   next_far page area n low high =
       ap (events_along becoming) n.rest
@@ -59,8 +59,8 @@ module _ (becoming : Becoming) (spans : AreInOrder (low_of becoming) (high_of be
 
   -- and then all are passed over up to the upper one
   pub passed_planned : (area : Record) (from : ℕ) (planner : Planner) → IsValid area → Each (Spares area.span.hi) areas → planner.pending ≡ None → planner.merging ≡ None
-      → IfSome planner.coming (λ new. new.span.lo ≡ (high_of becoming).lo) → (low_of becoming).hi < area.span.lo → area.span.hi < (high_of becoming).lo
-      → from ≡ (high_of becoming).lo - 1 → planned planner (rest_from from) ≡ planned planner (rest_from area.span.hi)
+      → IfSome planner.coming (λ new. new.span.lo ≡ (upper_span becoming).lo) → (lower_span becoming).hi < area.span.lo → area.span.hi < (upper_span becoming).lo
+      → from ≡ (upper_span becoming).lo - 1 → planned planner (rest_from from) ≡ planned planner (rest_from area.span.hi)
   passed_planned area from planner valid spares pending merging begins low high is =
       let above = ending_above area.span.hi areas in
       let settled : (events : List Event) → planned planner events ≡ along None None (come planner.coming events) =
@@ -84,7 +84,7 @@ module _ (becoming : Becoming) (spans : AreInOrder (low_of becoming) (high_of be
   pub end_planned : (page : ℕ) (planner : Planner) → first_from areas page ≡ None → planned planner (rest_from page) ≡ planned planner []
   end_planned page planner none = ap (λ list. planned planner (events_along becoming list)) (none_above areas page none)
 
-  pub high_planned : (page : ℕ) (area : Record) (planner : Planner) → IsNext areas page area → BeginsOne becoming planner.coming → (high_of becoming).hi < area.span.lo
+  pub high_planned : (page : ℕ) (area : Record) (planner : Planner) → IsNext areas page area → BeginsOne becoming planner.coming → (upper_span becoming).hi < area.span.lo
       → planned planner (rest_from page) ≡ planned planner []
   high_planned page area planner n begins above = last_planned becoming planner (ending_above page areas)
       (subst (Each (λ next. (is_close becoming next ≡ false) × IfSome planner.coming (λ new. new.span.lo < next.span.lo))) (sym n.rest) (
@@ -119,12 +119,12 @@ weight_along becoming (area ∷ areas) = by (is_close becoming area) refl (weigh
     )
 
 -- the room that the walk wants
-pub first_within : (becoming : Becoming) (areas : List Record) (new : Option Record) (planner : Planner) (page : ℕ) → AreInOrder (low_of becoming) (high_of becoming) → InOrder areas
+pub first_within : (becoming : Becoming) (areas : List Record) (new : Option Record) (planner : Planner) (page : ℕ) → AreSpansInOrder (lower_span becoming) (upper_span becoming) → InOrder areas
     → planner ≡ record { coming = new; pending = None; merging = None }
-    → held planner + weight (events_along becoming (ending_above page areas)) ≤ 2 * length areas + 3
+    → changes_left planner + weight (events_along becoming (ending_above page areas)) ≤ 2 * length areas + 3
 first_within becoming areas new planner page spans order is = omega (
   arith,
-  ap (λ (p : Planner). held p) is,
+  ap (λ (p : Planner). changes_left p) is,
   one new,
   skipped_weight becoming page areas,
   weight_along becoming areas,

@@ -95,11 +95,11 @@ pub record IsLocalToEither (a b : Span) (areas : List Record) (plan : List Chang
   pub short : length plan ≤ 2 * length (filter (is_near_either a b) areas) + 4
 
 -- a list that plans are made for: canonical up to the limit, and not longer than allowed
-pub record IsKept (bounds : Bounds) (most : ℕ) (areas : List Record) : Type 0 where
+pub record IsPlannedFor (bounds : Bounds) (most : ℕ) (areas : List Record) : Type 0 where
   pub canonical : IsCanonical bounds.limit areas
   pub few : length areas ≤ most
 
 -- a plan to begin with: no change, and room for two of each area and four more
-pub record IsFresh (most : ℕ) (plan : PlanView) : Type 0 where
+pub record IsFreshPlan (most : ℕ) (plan : PlanView) : Type 0 where
   pub empty : plan.changes ≡ []
   pub room : 2 * most + 4 ≤ plan.room

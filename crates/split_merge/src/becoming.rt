@@ -1,6 +1,6 @@
 //! What becomes of the areas of a list in a call.
 ghost use Rattle.std.specs.Prelude.{◌≡◌};
-ghost use Rattle.split_merge.specs.Internal.Becoming.{low_of, high_of};
+ghost use Rattle.split_merge.specs.Internal.Becoming.{lower_span, upper_span};
 
 use area_list::AttrChange;
 use mm_types::Span;
@@ -17,7 +17,7 @@ pub(crate) enum Becoming {
 impl Becoming {
     /// The lower of the two spans.
     pub(crate) fn low(&self) -> Span
-        ensures { result ≡ low_of self.now }
+        ensures { result ≡ lower_span self.now }
     {
         match self {
             Becoming::Outside { low, .. } => *low,
@@ -27,7 +27,7 @@ impl Becoming {
 
     /// The upper of the two spans.
     pub(crate) fn high(&self) -> Span
-        ensures { result ≡ high_of self.now }
+        ensures { result ≡ upper_span self.now }
     {
         match self {
             Becoming::Outside { high, .. } => *high,

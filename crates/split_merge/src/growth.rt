@@ -3,7 +3,7 @@ ghost use Rattle.mm_types.specs.declared.config.Config.{Config};
 ghost use Rattle.area_list.specs.Areas.{IsCanonical};
 ghost use Rattle.area_rules.specs.Growing.{grower, grown_to, grown_list};
 ghost use Rattle.split_merge.specs.declared.plan.Change.TheVariants.{Alter};
-ghost use Rattle.split_merge.specs.Plans.{Makes, IsFresh};
+ghost use Rattle.split_merge.specs.Plans.{Makes, IsFreshPlan};
 
 use crate::areas::Areas;
 use crate::plan::{Change, Plan};
@@ -14,7 +14,7 @@ use mm_types::Record;
 pub fn plan_growth<A: Areas>(areas: &A, page: u64, old: &Record, plan: &mut Plan)
     requires canonical { IsCanonical (A.bounds areas.now).limit (A.list areas.now) }
     requires grower { (config : Config) × (grower config (A.list areas.now) page ≡ Some old.now) }
-    requires fresh { IsFresh (A.most areas.now) plan.old }
+    requires fresh { IsFreshPlan (A.most areas.now) plan.old }
     ensures makes { Makes plan.new.changes (A.list areas.now) (grown_list page (A.list areas.now)) }
     ensures altered { plan.new.changes ≡ Alter old.now (grown_to page old.now) ∷ [] }
     ensures room { plan.new.room ≡ plan.old.room }

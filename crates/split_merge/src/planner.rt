@@ -5,7 +5,7 @@ ghost use Rattle.mm_types.specs.Records.{IsValid};
 ghost use Rattle.area_list.specs.Attributes.{with_attr};
 ghost use Rattle.area_list.specs.Changes.{piece, parts_changed, joined_area};
 ghost use Rattle.split_merge.specs.Internal.Becoming.{parts_outside_both, parts_left};
-ghost use Rattle.split_merge.specs.Internal.Planner.{Event, detaching, replacing, closing, taken, left, spare, settled, unsettled, planned_with, laid, reached, reaching, planned, held, weight, GoesAlong};
+ghost use Rattle.split_merge.specs.Internal.Planner.{Event, detaching, replacing, closing, taken, left, spare, merging_behind, unsettled, planned_with, laid, reached, reaching, planned, changes_left, weight, GoesAlong};
 
 use crate::becoming::Becoming;
 use crate::plan::{Change, Plan};
@@ -110,7 +110,7 @@ impl Planner {
     ghost use Rattle.area_list.specs.Attributes.{with_attr};
     ghost use Rattle.area_list.specs.Changes.{piece, parts_changed};
     ghost use Rattle.split_merge.specs.Internal.Becoming.{parts_outside_both, parts_left};
-    ghost use Rattle.split_merge.specs.Internal.Planner.{Event, detaching, settled, unsettled, planned_with, laid, reached, reaching, planned, held, weight, GoesAlong};
+    ghost use Rattle.split_merge.specs.Internal.Planner.{Event, detaching, merging_behind, unsettled, planned_with, laid, reached, reaching, planned, changes_left, weight, GoesAlong};
 
     /// A planner at the beginning of a list, for a call that maps at most one new area.
     pub(crate) fn new(coming: Option<Record>) -> Planner
@@ -148,7 +148,7 @@ impl Planner {
     /// page and updates none yet, and else it is detached.
     fn settle(&mut self, plan: &mut Plan)
         requires { length plan.old.changes + option_len self.old.pending ≤ plan.old.room }
-        ensures planner { self.new ≡ record self.old { pending = None; merging = settled self.old.pending self.old.merging } }
+        ensures planner { self.new ≡ record self.old { pending = None; merging = merging_behind self.old.pending self.old.merging } }
         ensures plan { plan.new ≡ record plan.old { changes = plan.old.changes ++ detaching (unsettled self.old.pending self.old.merging) } }
     {
         if let Some(pending) = self.pending {
@@ -179,7 +179,7 @@ impl Planner {
 
     /// Begins an old area: the one before it is decided, and this one is pending.
     fn begin(&mut self, area: &Record, plan: &mut Plan)
-        requires { length plan.old.changes + (held self.old + 1) ≤ plan.old.room }
+        requires { length plan.old.changes + (changes_left self.old + 1) ≤ plan.old.room }
         ensures { GoesAlong (Event.Begins area.now ∷ []) self.old self.new plan.old plan.new }
     {
         self.reach(area.span.lo, plan);
@@ -189,7 +189,7 @@ impl Planner {
 
     /// Appends a piece of an old area, after the new area of the call if that begins below it.
     fn come_to(&mut self, part: &Record, plan: &mut Plan)
-        requires { length plan.old.changes + (held self.old + 1) ≤ plan.old.room }
+        requires { length plan.old.changes + (changes_left self.old + 1) ≤ plan.old.room }
         ensures { GoesAlong (Event.Comes part.now ∷ []) self.old self.new plan.old plan.new }
     {
         self.reach(part.span.lo, plan);
@@ -200,7 +200,7 @@ impl Planner {
     fn come_to_piece(&mut self, area: &Record, lo: u64, hi: u64, plan: &mut Plan)
         requires valid { IsValid area.now }
         requires within { hi ≤ area.now.span.hi }
-        requires room { length plan.old.changes + (held self.old + length (piece area.now lo hi)) ≤ plan.old.room }
+        requires room { length plan.old.changes + (changes_left self.old + length (piece area.now lo hi)) ≤ plan.old.room }
         ensures { GoesAlong (map Event.Comes (piece area.now lo hi)) self.old self.new plan.old plan.new }
     {
         if let Some(part) = piece(area, lo, hi) {
@@ -211,7 +211,7 @@ impl Planner {
     /// Appends what the call leaves of an area: below the lower span, between the two, and above the upper.
     fn come_to_outside(&mut self, low: &Span, high: &Span, area: &Record, plan: &mut Plan)
         requires valid { IsValid area.now }
-        requires room { length plan.old.changes + (held self.old + length (parts_outside_both low.now high.now area.now))
+        requires room { length plan.old.changes + (changes_left self.old + length (parts_outside_both low.now high.now area.now))
             ≤ plan.old.room }
         ensures { GoesAlong (map Event.Comes (parts_outside_both low.now high.now area.now)) self.old self.new plan.old plan.new }
     {
@@ -225,7 +225,7 @@ impl Planner {
     fn come_to_within(&mut self, span: &Span, change: AttrChange, area: &Record, plan: &mut Plan)
         requires valid { IsValid area.now }
         requires room { length plan.old.changes
-            + (held self.old + length (piece area.now (max area.now.span.lo span.now.lo) (min area.now.span.hi span.now.hi))) ≤ plan.old.room }
+            + (changes_left self.old + length (piece area.now (max area.now.span.lo span.now.lo) (min area.now.span.hi span.now.hi))) ≤ plan.old.room }
         ensures { GoesAlong
             (map Event.Comes (map (with_attr change) (piece area.now (max area.now.span.lo span.now.lo) (min area.now.span.hi span.now.hi))))
             self.old self.new plan.old plan.new }
@@ -240,7 +240,7 @@ impl Planner {
     /// Appends the pieces of an area: below the span, within it with its attributes changed, and above it.
     fn come_to_changed(&mut self, span: &Span, change: AttrChange, area: &Record, plan: &mut Plan)
         requires valid { IsValid area.now }
-        requires room { length plan.old.changes + (held self.old + length (parts_changed change span.now area.now)) ≤ plan.old.room }
+        requires room { length plan.old.changes + (changes_left self.old + length (parts_changed change span.now area.now)) ≤ plan.old.room }
         ensures { GoesAlong (map Event.Comes (parts_changed change span.now area.now)) self.old self.new plan.old plan.new }
     {
         let whole = area.span;
@@ -252,7 +252,7 @@ impl Planner {
     /// Visits an area near the spans of the call: splits it where they begin and end, and drops or changes the pieces within.
     pub(crate) fn take(&mut self, becoming: &Becoming, area: &Record, plan: &mut Plan)
         requires valid { IsValid area.now }
-        requires room { length plan.old.changes + (held self.old + (1 + length (parts_left becoming.now area.now))) ≤ plan.old.room }
+        requires room { length plan.old.changes + (changes_left self.old + (1 + length (parts_left becoming.now area.now))) ≤ plan.old.room }
         ensures { GoesAlong (Event.Begins area.now ∷ map Event.Comes (parts_left becoming.now area.now)) self.old self.new plan.old plan.new }
     {
         self.begin(area, plan);
@@ -264,7 +264,7 @@ impl Planner {
 
     /// Passes over an area between the two spans, which merges with nothing.
     pub(crate) fn pass(&mut self, area: &Record, plan: &mut Plan)
-        requires { length plan.old.changes + held self.old ≤ plan.old.room }
+        requires { length plan.old.changes + changes_left self.old ≤ plan.old.room }
         ensures along { GoesAlong (Event.Passed area.now ∷ []) self.old self.new plan.old plan.new }
         ensures pending { self.new.pending ≡ None }
         ensures merging { self.new.merging ≡ None }
@@ -278,7 +278,7 @@ impl Planner {
 
     /// Ends the list: the new area, if it is above all others, and what is pending.
     pub(crate) fn finish(&mut self, plan: &mut Plan)
-        requires { length plan.old.changes + held self.old ≤ plan.old.room }
+        requires { length plan.old.changes + changes_left self.old ≤ plan.old.room }
         ensures { plan.new ≡ record plan.old { changes = plan.old.changes ++ planned self.old [] } }
     {
         if let Some(new) = self.coming {

@@ -3,7 +3,7 @@ ghost use Rattle.std.specs.Prelude.{◌≡◌, ◌<◌, ◌≤◌, false, if◌t
 ghost use Rattle.mm_types.specs.Records.{IsValid};
 ghost use Rattle.area_list.specs.Changes.{cut, put};
 ghost use Rattle.area_list.specs.Areas.{overlap};
-ghost use Rattle.split_merge.specs.Plans.{Makes, IsLocalToEither, IsKept, IsFresh};
+ghost use Rattle.split_merge.specs.Plans.{Makes, IsLocalToEither, IsPlannedFor, IsFreshPlan};
 
 use crate::areas::Areas;
 use crate::becoming::Becoming;
@@ -21,12 +21,12 @@ fn in_order(a: Span, b: Span) -> (Span, Span)
 /// Plans that the area lies over what was there, as one with the neighbours that join it, and that no area keeps a page
 /// of the hole, which shares no page with it: what mremap(2) does where it moves an area.
 pub fn plan_move<A: Areas>(areas: &A, area: Record, hole: Span, plan: &mut Plan)
-    requires list { IsKept (A.bounds areas.now) (A.most areas.now) (A.list areas.now) }
+    requires list { IsPlannedFor (A.bounds areas.now) (A.most areas.now) (A.list areas.now) }
     requires valid { IsValid area }
     requires within { area.span.hi ≤ (A.bounds areas.now).limit }
     requires some_pages { hole.lo < hole.hi }
     requires beside { overlap hole area.span ≡ false }
-    requires fresh { IsFresh (A.most areas.now) plan.old }
+    requires fresh { IsFreshPlan (A.most areas.now) plan.old }
     ensures makes { Makes plan.new.changes (A.list areas.now) (cut hole (put area (A.list areas.now))) }
     ensures local { IsLocalToEither hole area.span (A.list areas.now) plan.new.changes }
     ensures room { plan.new.room ≡ plan.old.room }

@@ -1,7 +1,7 @@
 //! The walk of a plan along the areas of a list.
 ghost use Rattle.std.specs.Prelude.{◌≡◌, ◌≤◌, ◌+◌, ◌*◌, ◌++◌, length};
 ghost use Rattle.area_list.specs.Areas.{IsCanonical};
-ghost use Rattle.split_merge.specs.Internal.Becoming.{low_of, high_of, AreInOrder, BeginsOne};
+ghost use Rattle.split_merge.specs.Internal.Becoming.{lower_span, upper_span, AreSpansInOrder, BeginsOne};
 ghost use Rattle.split_merge.specs.Internal.Planner.{all_planned};
 
 use crate::areas::Areas;
@@ -20,7 +20,7 @@ pub(crate) fn plan_changes<A: Areas>(
     plan: &mut Plan,
 )
     requires canonical { IsCanonical (A.bounds areas.now).limit (A.list areas.now) }
-    requires spans { AreInOrder (low_of becoming.now) (high_of becoming.now) }
+    requires spans { AreSpansInOrder (lower_span becoming.now) (upper_span becoming.now) }
     requires new { BeginsOne becoming.now new }
     requires room { length plan.old.changes + (2 * length (A.list areas.now) + 3) ≤ plan.old.room }
     ensures { plan.new ≡ record plan.old { changes = plan.old.changes ++ all_planned becoming.now new (A.list areas.now) } }

@@ -4,16 +4,16 @@ use Rattle.std.proofs.lemmas.List.{length-set}
 use Rattle.std.proofs.lemmas.List.Elements.{All-tail}
 use Rattle.grace_core.specs.declared.events.GraceEvent.{GraceEvent}
 use Rattle.grace_core.specs.declared.events.GraceEvent.TheVariants.{Open, Root, Word, Close, Fill, Publish, Scan, Split, Join}
-use Rattle.grace_core.specs.Core.{Core, pin_at}
-use Rattle.grace_core.specs.Events.{after_event}
+use Rattle.grace_core.specs.Core.{GraceCore, pin_at}
+use Rattle.grace_core.specs.Events.{after_grace_event}
 use Rattle.grace_core.proofs.Moves.{exists_looked}
 use Rattle.step_script.specs.declared.script.EventLine.{EventLine}
 use Rattle.step_script.specs.GraceTexts.{grace_after, grace_line_text, grace_lines_text}
 use Rattle.step_script.specs.Values.{IsGraceEvent, IsGraceState}
 
 -- an event of a script keeps readers and rows
-pub kept_after : (readers rows : ℕ) (core : Core) (event : GraceEvent) → IsGraceEvent readers rows event → IsGraceState readers rows core
-    → IsGraceState readers rows (after_event core event)
+pub kept_after : (readers rows : ℕ) (core : GraceCore) (event : GraceEvent) → IsGraceEvent readers rows event → IsGraceState readers rows core
+    → IsGraceState readers rows (after_grace_event core event)
 kept_after readers rows core (Open reader) fits kept =
     record { pins = length-set core.pins reader _ ∙ kept.pins; few = kept.few; exist = kept.exist; words = kept.words }
 kept_after readers rows core (Root reader) fits kept = record { pins = kept.pins; few = kept.few; exist = kept.exist; words = kept.words }
@@ -34,13 +34,13 @@ kept_after readers rows core (Split reader) fits kept = absurd fits
 kept_after readers rows core (Join first second) fits kept = absurd fits
 
 -- one line more is printed
-pub one_printed : (line : EventLine GraceEvent) (lines rest : List (EventLine GraceEvent)) (core next : Core) (before after all : List ℕ) → lines ≡ line ∷ rest
+pub one_printed : (line : EventLine GraceEvent) (lines rest : List (EventLine GraceEvent)) (core next : GraceCore) (before after all : List ℕ) → lines ≡ line ∷ rest
     → before ++ grace_lines_text core lines ≡ all → after ≡ before ++ grace_line_text core line → next ≡ grace_after core line.event
     → after ++ grace_lines_text next rest ≡ all
 one_printed line lines rest core next before after all first so_far printed is =
     ap (λ (t : List ℕ). t ++ grace_lines_text next rest) printed
     ∙ append_assoc before (grace_line_text core line) (grace_lines_text next rest)
-    ∙ ap (λ (c : Core). before ++ (grace_line_text core line ++ grace_lines_text c rest)) is
+    ∙ ap (λ (c : GraceCore). before ++ (grace_line_text core line ++ grace_lines_text c rest)) is
     ∙ ap (λ (ls : List (EventLine GraceEvent)). before ++ grace_lines_text core ls) (sym first) ∙ so_far
 
 -- the events of the lines that are left after the first

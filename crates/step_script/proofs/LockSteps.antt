@@ -4,12 +4,12 @@ use Rattle.mm_types.specs.Config.{IsValidConfig, default_config}
 use Rattle.lock_core.specs.declared.events.LockEvent.{LockEvent}
 use Rattle.lock_core.specs.declared.events.LockEvent.TheVariants.{Add, Look, Field, Sub, Begin, Mark, Store, End, Split, Join}
 use Rattle.lock_core.specs.declared.events.StepRefusal.{StepRefusal}
-use Rattle.lock_core.specs.Refusals.{refusal}
+use Rattle.lock_core.specs.Refusals.{lock_refusal}
 use Rattle.lock_core.specs.States.{Lock, NamesField, after_step}
 use Rattle.step_script.specs.declared.script.EventLine.{EventLine}
 use Rattle.lock_core.proofs.Growing.{readers_grow, journal_grows}
 use Rattle.step_script.specs.LockTexts.{lock_after, lock_line_text, lock_lines_text}
-use Rattle.step_script.specs.Texts.{left_by}
+use Rattle.step_script.specs.Texts.{state_after}
 use Rattle.step_script.specs.Values.{IsLockEvent}
 
 -- the configuration of a script is valid
@@ -41,19 +41,19 @@ names_field readers slots (Join first second) fits = tt
 
 -- whether an event is refused or not, the state after it has at most one reader more
 pub readers_left : (lock : Lock) (event : LockEvent) → length (lock_after lock event).core.readers ≤ length lock.core.readers + 1
-readers_left lock event = by_refusal (refusal lock.config lock.core event)
+readers_left lock event = by_refusal (lock_refusal lock.config lock.core event)
   where
     by_refusal : (reason : Option StepRefusal)
-        → length (left_by reason lock (after_step lock event)).core.readers ≤ length lock.core.readers + 1
+        → length (state_after reason lock (after_step lock event)).core.readers ≤ length lock.core.readers + 1
     by_refusal None = readers_grow lock.config lock.core event
     by_refusal (Some reason) = omega arith
 
 -- and at most one entry more
 pub journal_left : (lock : Lock) (event : LockEvent) → length (lock_after lock event).core.journal ≤ length lock.core.journal + 1
-journal_left lock event = by_refusal (refusal lock.config lock.core event)
+journal_left lock event = by_refusal (lock_refusal lock.config lock.core event)
   where
     by_refusal : (reason : Option StepRefusal)
-        → length (left_by reason lock (after_step lock event)).core.journal ≤ length lock.core.journal + 1
+        → length (state_after reason lock (after_step lock event)).core.journal ≤ length lock.core.journal + 1
     by_refusal None = journal_grows lock.config lock.core event
     by_refusal (Some reason) = omega arith
 

@@ -40,8 +40,8 @@ not_the_list : (place : ℕ) → lock.NotTheList place ≢ lock.NoMemory
 not_the_list place = λ same. cc
 
 -- no row of the grace core gives it
-pub grace-other : (core : grace_states.Core) (event : GraceEvent) → grace_refusals.refusal core event ≢ Some grace.NoMemory
-unfolding grace_refusals.refusal
+pub grace-other : (core : grace_states.GraceCore) (event : GraceEvent) → grace_refusals.grace_refusal core event ≢ Some grace.NoMemory
+unfolding grace_refusals.grace_refusal
 grace-other core event =
     other grace.NoMemory grace.NotOpen _ _ (λ (same : grace.NotOpen ≡ grace.NoMemory). cc)
     (other grace.NoMemory grace.AlreadyOpen _ _ (λ (same : grace.AlreadyOpen ≡ grace.NoMemory). cc)
@@ -50,8 +50,8 @@ grace-other core event =
     (other grace.NoMemory _ _ None (row_not_shown _) (λ (same : None ≡ Some grace.NoMemory). cc)))))
 
 -- no row of the lock core gives it
-pub lock-other : (config : Config) (core : lock_states.Core) (event : LockEvent) → lock_refusals.refusal config core event ≢ Some lock.NoMemory
-unfolding lock_refusals.refusal
+pub lock-other : (config : Config) (core : lock_states.LockCore) (event : LockEvent) → lock_refusals.lock_refusal config core event ≢ Some lock.NoMemory
+unfolding lock_refusals.lock_refusal
 lock-other config core event =
     other lock.NoMemory lock.NoSlot _ _ (λ (same : lock.NoSlot ≡ lock.NoMemory). cc)
     (other lock.NoMemory lock.NotOpen _ _ (λ (same : lock.NotOpen ≡ lock.NoMemory). cc)
@@ -63,15 +63,15 @@ lock-other config core event =
     (other lock.NoMemory _ _ None (not_the_list _) (λ (same : None ≡ Some lock.NoMemory). cc))))))))
 
 -- so where an event of the grace core finds no memory, nothing refuses it and it takes memory
-pub grace-lacks : (core new : grace_states.Core) (event : GraceEvent) (reason : GraceRefusal) → grace_steps.IsRefused core event new reason
-    → reason ≡ grace.NoMemory → (grace_refusals.refusal core event ≡ None) × (grace_steps.takes_memory event ≡ true)
+pub grace-lacks : (core new : grace_states.GraceCore) (event : GraceEvent) (reason : GraceRefusal) → grace_steps.IsGraceStepRefused core event new reason
+    → reason ≡ grace.NoMemory → (grace_refusals.grace_refusal core event ≡ None) × (grace_steps.takes_memory event ≡ true)
 grace-lacks core new event reason refused lacks = elim refused.1 [
   | inl tested ↦ absurd (grace-other core event (tested ∙ ap Some lacks))
   | inr may ↦ (may.0, may.1)
 ]
 
 -- and one of the lock core may take memory
-pub lock-lacks : (state new : lock_steps.Lock) (event : LockEvent) (reason : StepRefusal) → lock_steps.IsRefused state event new reason
+pub lock-lacks : (state new : lock_steps.Lock) (event : LockEvent) (reason : StepRefusal) → lock_steps.IsLockStepRefused state event new reason
     → reason ≡ lock.NoMemory → lock_steps.may_lack_memory state.core event ≡ true
 lock-lacks state new event reason refused lacks = elim refused.1 [
   | inl tested ↦ absurd (lock-other state.config state.core event (tested ∙ ap Some lacks))

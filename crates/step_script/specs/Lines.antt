@@ -11,7 +11,7 @@ use Rattle.step_script.specs.declared.script.Counts.{Counts}
 use Rattle.step_script.specs.declared.script.Script.{Script}
 use Rattle.step_script.specs.declared.script.Script.TheVariants.{Lock, Grace}
 use Rattle.step_script.specs.declared.script.TheConstants.{MOST_LINES}
-use Rattle.step_script.specs.Fields.{count_of}
+use Rattle.step_script.specs.Fields.{read_count}
 use Rattle.step_script.specs.GraceLines.{grace_event, is_publish}
 use Rattle.step_script.specs.LockLines.{lock_event, is_end}
 use Rattle.step_script.specs.Scripts.{without_events, with_event}
@@ -22,20 +22,20 @@ is_header (name ∷ version ∷ []) = bytes_eq name (codes "vmasteps") && bytes_
 is_header _ = false
 
 -- how many readers there are, and slots or rows, by these words
-unfoldable pub counted : List ℕ → List ℕ → Result Counts Cause
-counted readers parts = do
-  r ← count_of readers
-  n ← count_of parts
+unfoldable pub read_counts : List ℕ → List ℕ → Result Counts Cause
+read_counts readers parts = do
+  r ← read_count readers
+  n ← read_count parts
   Ok (record { readers = r; parts = n })
 
 -- the same, by the words after the name of a core
 unfoldable pub counts_of : List (List ℕ) → Result Counts Cause
-counts_of (readers ∷ parts ∷ []) = counted readers parts
+counts_of (readers ∷ parts ∷ []) = read_counts readers parts
 counts_of _ = Err Arity
 
 -- `lock READERS SLOTS`, from the words after `lock`
-unfoldable pub lock_of : List (List ℕ) → Result Script Cause
-lock_of words = do
+unfoldable pub read_lock : List (List ℕ) → Result Script Cause
+read_lock words = do
   counts ← counts_of words
   Ok (Lock (without_events counts))
 
@@ -46,8 +46,8 @@ grace_of words = do
   Ok (Grace (without_events counts))
 
 -- the line that names the core, from its name and the words after it
-unfoldable pub core_of : List ℕ → List (List ℕ) → Result Script Cause
-core_of name words = if bytes_eq name (codes "lock") then lock_of words
+unfoldable pub read_core : List ℕ → List (List ℕ) → Result Script Cause
+read_core name words = if bytes_eq name (codes "lock") then read_lock words
     else (if bytes_eq name (codes "grace") then grace_of words else Err Word)
 
 -- whether the first word of a line names an event that may take memory: an end of the lock core for its call, and a publish of the
@@ -69,7 +69,7 @@ line_may_take script number words = not (nat_eq number 1) && words_may_take scri
 -- what a line says by its first word: before the line that names the core it is that line, and else an event
 unfoldable pub said_to : Option Script → List ℕ → List ℕ → List (List ℕ) → Result Said Cause
 said_to None text name words = do
-  script ← core_of name words
+  script ← read_core name words
   Ok (said.Core script)
 said_to (Some (Lock script)) text name words = do
   event ← lock_event script.readers script.parts text name words
@@ -104,8 +104,8 @@ unfoldable pub with_said : ℕ → Said → Result (Option Script) Cause
 with_said number what = if nat_lt MOST_LINES number then Err TooMany else Ok (script_with number what)
 
 -- the script after a line
-unfoldable pub after_line : Option Script → RawLine → Result (Option Script) Cause
-after_line script line = do
+unfoldable pub after_script_line : Option Script → RawLine → Result (Option Script) Cause
+after_script_line script line = do
   text ← text_of line
   what ← said_in script line.number text (words_of text)
   with_said line.number what

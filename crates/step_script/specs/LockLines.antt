@@ -4,17 +4,17 @@ use Rattle.lock_core.specs.declared.events.LockEvent.{LockEvent}
 use Rattle.lock_core.specs.declared.events.LockEvent.TheVariants.{Add, Look, Field, Sub, Begin, Mark, Store, End}
 use Rattle.text_lexer.specs.declared.error.Cause.{Cause}
 use Rattle.text_lexer.specs.declared.error.Cause.TheVariants.{Word, Arity}
-use Rattle.trace_reader.specs.Calls.{call_of}
+use Rattle.trace_reader.specs.Calls.{read_call}
 use Rattle.text_lexer.specs.Causes.{◌>>=◌}
 use Rattle.text_lexer.specs.Numbers.{number}
 use Rattle.text_lexer.specs.Words.{text_after_words}
-use Rattle.step_script.specs.Fields.{index_of, caller_of, reader_of}
+use Rattle.step_script.specs.Fields.{read_index, read_caller, read_reader}
 
 -- the add of these words
 unfoldable pub add : ℕ → ℕ → List ℕ → List ℕ → Result LockEvent Cause
 add readers slots reader slot = do
-  r ← index_of readers reader
-  k ← index_of slots slot
+  r ← read_index readers reader
+  k ← read_index slots slot
   Ok (Add r (record { 0 = k }))
 
 -- `add R K`
@@ -25,14 +25,14 @@ add_of readers slots _ = Err Arity
 -- `look R`
 unfoldable pub look_of : ℕ → List (List ℕ) → Result LockEvent Cause
 look_of readers words = do
-  r ← reader_of readers words
+  r ← read_reader readers words
   Ok (Look r)
 
 -- the read of a field that these words ask for
 unfoldable pub field : ℕ → List ℕ → List ℕ → Result LockEvent Cause
 field readers reader place = do
-  r ← index_of readers reader
-  i ← index_of 4 place
+  r ← read_index readers reader
+  i ← read_index 4 place
   Ok (Field r i)
 
 -- `field R I`
@@ -43,7 +43,7 @@ field_of readers _ = Err Arity
 -- `sub R`
 unfoldable pub sub_of : ℕ → List (List ℕ) → Result LockEvent Cause
 sub_of readers words = do
-  r ← reader_of readers words
+  r ← read_reader readers words
   Ok (Sub r)
 
 -- `begin`
@@ -54,15 +54,15 @@ begin_of _ = Err Arity
 -- `mark K`
 unfoldable pub mark_of : ℕ → List (List ℕ) → Result LockEvent Cause
 mark_of slots (slot ∷ []) = do
-  k ← index_of slots slot
+  k ← read_index slots slot
   Ok (Mark (record { 0 = k }))
 mark_of slots _ = Err Arity
 
 -- the store of these words
 unfoldable pub store : ℕ → List ℕ → List ℕ → List ℕ → Result LockEvent Cause
 store slots slot field word = do
-  k ← index_of slots slot
-  i ← index_of 4 field
+  k ← read_index slots slot
+  i ← read_index 4 field
   x ← number word
   Ok (Store (record { 0 = k }) i x)
 
@@ -74,14 +74,14 @@ store_of slots _ = Err Arity
 -- the end of a call of this caller, where the call is what follows two words of the line's text
 unfoldable pub end_by : List ℕ → List ℕ → Result LockEvent Cause
 end_by text caller = do
-  t ← caller_of caller
-  call ← call_of (text_after_words 2 text)
+  t ← read_caller caller
+  call ← read_call (text_after_words 2 text)
   Ok (End t call)
 
 -- `end T CALL`
-unfoldable pub end_of : List ℕ → List (List ℕ) → Result LockEvent Cause
-end_of text (caller ∷ name ∷ more) = end_by text caller
-end_of text _ = Err Arity
+unfoldable pub read_end : List ℕ → List (List ℕ) → Result LockEvent Cause
+read_end text (caller ∷ name ∷ more) = end_by text caller
+read_end text _ = Err Arity
 
 -- whether a word is the name of the event that has a call
 abbrev pub is_end : List ℕ → Bool
@@ -96,4 +96,4 @@ lock_event readers slots text name words = if bytes_eq name (codes "add") then a
     else (if bytes_eq name (codes "begin") then begin_of words
     else (if bytes_eq name (codes "mark") then mark_of slots words
     else (if bytes_eq name (codes "store") then store_of slots words
-    else (if is_end name then end_of text words else Err Word)))))))
+    else (if is_end name then read_end text words else Err Word)))))))

@@ -7,21 +7,21 @@ use Rattle.lock_core.specs.declared.events.LockAnswer.TheVariants as answers
 use Rattle.lock_core.specs.declared.events.LockEvent.{LockEvent}
 use Rattle.lock_core.specs.declared.events.StepRefusal.{StepRefusal}
 use Rattle.lock_core.specs.declared.events.StepRefusal.TheVariants as refusals
-use Rattle.lock_core.specs.Core.{Core, slot_at, count_at}
-use Rattle.lock_core.specs.Events.{answer}
-use Rattle.lock_core.specs.Refusals.{refusal}
+use Rattle.lock_core.specs.Core.{LockCore, slot_at, count_at}
+use Rattle.lock_core.specs.Events.{lock_answer}
+use Rattle.lock_core.specs.Refusals.{lock_refusal}
 use Rattle.lock_core.specs.States.{Lock, opening_core, after_step}
 use Rattle.step_script.specs.declared.script.EventLine.{EventLine}
 use Rattle.step_script.specs.declared.script.CoreScript.{CoreScript}
-use Rattle.step_script.specs.Texts.{outcome_of, left_by, texts_below, start_text, refusal_text}
+use Rattle.step_script.specs.Texts.{event_outcome, state_after, texts_below, event_start, refusal_text}
 
 -- what an event results in
 abbrev pub lock_outcome : Lock → LockEvent → Result LockAnswer StepRefusal
-lock_outcome lock event = outcome_of (refusal lock.config lock.core event) (answer lock.core event)
+lock_outcome lock event = event_outcome (lock_refusal lock.config lock.core event) (lock_answer lock.core event)
 
 -- the state after an event
 abbrev pub lock_after : Lock → LockEvent → Lock
-lock_after lock event = left_by (refusal lock.config lock.core event) lock (after_step lock event)
+lock_after lock event = state_after (lock_refusal lock.config lock.core event) lock (after_step lock event)
 
 -- what an event finds. No script makes a reader.
 unfoldable pub lock_answer_text : LockAnswer → List ℕ
@@ -56,17 +56,17 @@ lock_outcome_text (Ok found) = lock_answer_text found
 lock_outcome_text (Err reason) = refusal_text (lock_reason_name reason) (lock_reason_value reason)
 
 -- a slot: ` <slot>:<lock sequence>/<count of readers>`
-unfoldable pub slot_text : Core → ℕ → List ℕ
+unfoldable pub slot_text : LockCore → ℕ → List ℕ
 slot_text core slot = codes " " ++ (decimal slot ++ (codes ":" ++ (decimal (slot_at core.slots slot).lock_seq
     ++ (codes "/" ++ decimal (count_at core.counts slot)))))
 
 -- a state: ` | S <sequence> M` and each slot
-unfoldable pub lock_state_text : Core → List ℕ
+unfoldable pub lock_state_text : LockCore → List ℕ
 lock_state_text core = codes " | S " ++ (decimal core.seq ++ codes " M") ++ texts_below (length core.slots) (slot_text core)
 
 -- the line of an event, which begins in this state
 unfoldable pub lock_line_text : Lock → EventLine LockEvent → List ℕ
-lock_line_text lock line = start_text line.number ++ lock_outcome_text (lock_outcome lock line.event)
+lock_line_text lock line = event_start line.number ++ lock_outcome_text (lock_outcome lock line.event)
     ++ lock_state_text (lock_after lock line.event).core ++ codes "\n"
 
 -- the lines of events, the first of which begins in this state

@@ -2,7 +2,7 @@
 use Rattle.std.specs.Prelude.{ℕ, ◌≡◌, ◌≢◌, ◌≤◌, ◌<◌, [], length, All, Option, IfSome}
 use Rattle.grace_core.specs.declared.events.GraceEvent.{GraceEvent}
 use Rattle.grace_core.specs.declared.events.GraceEvent.TheVariants as grace
-use Rattle.grace_core.specs.Core.{Core}
+use Rattle.grace_core.specs.Core.{GraceCore}
 use Rattle.grace_core.specs.States.{HasReader}
 use Rattle.lock_core.specs.declared.events.LockEvent.{LockEvent}
 use Rattle.lock_core.specs.declared.events.LockEvent.TheVariants as lock
@@ -80,7 +80,7 @@ IsSaid limit (said.Lock script event) = IsLockScript limit script × IsLockEvent
 IsSaid limit (said.Grace script event) = IsGraceScript limit script × IsGraceEvent script.readers script.parts event
 
 -- a state of the grace core that has exactly these readers and rows, none of the readers joined away
-pub record IsGraceState (readers rows : ℕ) (core : Core) : Type 0 where
+pub record IsGraceState (readers rows : ℕ) (core : GraceCore) : Type 0 where
   pub pins : length core.pins ≡ readers
   pub few : readers ≤ MOST_PARTS
   pub exist : (reader : ℕ) → reader < readers → HasReader core reader

@@ -1,8 +1,8 @@
 //! The events of the grace core, each from the words after its name.
 
 ghost use Rattle.std.specs.Prelude.{◌<◌, All, IfOk, map};
-ghost use Rattle.text_lexer.specs.Reading.{Gives, Reads};
-ghost use Rattle.step_script.specs.GraceLines.{open_of, root_of, word, word_of, close_of, fill, fill_of, rows_of, publish_of, scan_of, grace_event, is_publish};
+ghost use Rattle.text_lexer.specs.Reading.{Gives, ReadsAs};
+ghost use Rattle.step_script.specs.GraceLines.{open_of, read_root, read_load_of_word, read_word, close_of, fill, fill_of, read_row_words, publish_of, scan_of, grace_event, is_publish};
 ghost use Rattle.step_script.specs.Reading.{LacksOnlyIf};
 ghost use Rattle.step_script.specs.Values.{IsGraceEvent};
 
@@ -15,25 +15,25 @@ use text_lexer::{CallError, Cause, number};
 /// `open R`.
 #[tactic(auto, unfolding(crate::specs::GraceLines::open_of))]
 fn open_of(words: &[&str], readers: u32, rows: u32) -> Result<GraceEvent, Cause>
-    ensures value { Reads (λ event. event) result (open_of readers (map (λ word. word.now) words.now)) }
+    ensures value { ReadsAs (λ event. event) result (open_of readers (map (λ word. word.now) words.now)) }
     ensures fits { IfOk result (IsGraceEvent readers rows) }
 {
     Ok(GraceEvent::Open(reader_of(words, readers)?))
 }
 
 /// `root R`.
-#[tactic(auto, unfolding(crate::specs::GraceLines::root_of))]
+#[tactic(auto, unfolding(crate::specs::GraceLines::read_root))]
 fn root_of(words: &[&str], readers: u32, rows: u32) -> Result<GraceEvent, Cause>
-    ensures value { Reads (λ event. event) result (root_of readers (map (λ word. word.now) words.now)) }
+    ensures value { ReadsAs (λ event. event) result (read_root readers (map (λ word. word.now) words.now)) }
     ensures fits { IfOk result (IsGraceEvent readers rows) }
 {
     Ok(GraceEvent::Root(reader_of(words, readers)?))
 }
 
 /// The load of a word that these words ask for.
-#[tactic(auto, unfolding(crate::specs::GraceLines::word))]
+#[tactic(auto, unfolding(crate::specs::GraceLines::read_load_of_word))]
 fn word(reader: &str, row: &str, readers: u32, rows: u32) -> Result<GraceEvent, Cause>
-    ensures value { Reads (λ event. event) result (word readers rows reader.now row.now) }
+    ensures value { ReadsAs (λ event. event) result (read_load_of_word readers rows reader.now row.now) }
     ensures fits { IfOk result (IsGraceEvent readers rows) }
 {
     let reader = index_of(reader, readers)?;
@@ -42,9 +42,9 @@ fn word(reader: &str, row: &str, readers: u32, rows: u32) -> Result<GraceEvent, 
 }
 
 /// `word R W`.
-#[tactic(auto, unfolding(crate::specs::GraceLines::word_of))]
+#[tactic(auto, unfolding(crate::specs::GraceLines::read_word))]
 fn word_of(words: &[&str], readers: u32, rows: u32) -> Result<GraceEvent, Cause>
-    ensures value { Reads (λ event. event) result (word_of readers rows (map (λ word. word.now) words.now)) }
+    ensures value { ReadsAs (λ event. event) result (read_word readers rows (map (λ word. word.now) words.now)) }
     ensures fits { IfOk result (IsGraceEvent readers rows) }
 {
     match words {
@@ -56,7 +56,7 @@ fn word_of(words: &[&str], readers: u32, rows: u32) -> Result<GraceEvent, Cause>
 /// `close R`.
 #[tactic(auto, unfolding(crate::specs::GraceLines::close_of))]
 fn close_of(words: &[&str], readers: u32, rows: u32) -> Result<GraceEvent, Cause>
-    ensures value { Reads (λ event. event) result (close_of readers (map (λ word. word.now) words.now)) }
+    ensures value { ReadsAs (λ event. event) result (close_of readers (map (λ word. word.now) words.now)) }
     ensures fits { IfOk result (IsGraceEvent readers rows) }
 {
     Ok(GraceEvent::Close(reader_of(words, readers)?))
@@ -65,7 +65,7 @@ fn close_of(words: &[&str], readers: u32, rows: u32) -> Result<GraceEvent, Cause
 /// The fill of these words.
 #[tactic(auto, unfolding(crate::specs::GraceLines::fill))]
 fn fill(row: &str, value: &str, readers: u32, rows: u32) -> Result<GraceEvent, Cause>
-    ensures value { Reads (λ event. event) result (fill rows row.now value.now) }
+    ensures value { ReadsAs (λ event. event) result (fill rows row.now value.now) }
     ensures fits { IfOk result (IsGraceEvent readers rows) }
 {
     let row = index_of(row, rows)?;
@@ -76,7 +76,7 @@ fn fill(row: &str, value: &str, readers: u32, rows: u32) -> Result<GraceEvent, C
 /// `fill W X`.
 #[tactic(auto, unfolding(crate::specs::GraceLines::fill_of))]
 fn fill_of(words: &[&str], readers: u32, rows: u32) -> Result<GraceEvent, Cause>
-    ensures value { Reads (λ event. event) result (fill_of rows (map (λ word. word.now) words.now)) }
+    ensures value { ReadsAs (λ event. event) result (fill_of rows (map (λ word. word.now) words.now)) }
     ensures fits { IfOk result (IsGraceEvent readers rows) }
 {
     match words {
@@ -87,7 +87,7 @@ fn fill_of(words: &[&str], readers: u32, rows: u32) -> Result<GraceEvent, Cause>
 
 /// Rows, each a word.
 fn rows_of(alloc: Global, words: &[&str], rows: u32) -> Result<Vec<Row>, CallError>
-    ensures value { Gives (λ listed. listed.items) result (rows_of rows (map (λ word. word.now) words.now)) }
+    ensures value { Gives (λ listed. listed.items) result (read_row_words rows (map (λ word. word.now) words.now)) }
     ensures fits { IfOk result (λ listed. All (λ row. row.0 < rows) listed.items) }
 {
     let mut listed = Vec::new(alloc);
@@ -122,7 +122,7 @@ fn publish_of(
 /// `scan R`.
 #[tactic(auto, unfolding(crate::specs::GraceLines::scan_of))]
 fn scan_of(words: &[&str], readers: u32, rows: u32) -> Result<GraceEvent, Cause>
-    ensures value { Reads (λ event. event) result (scan_of readers (map (λ word. word.now) words.now)) }
+    ensures value { ReadsAs (λ event. event) result (scan_of readers (map (λ word. word.now) words.now)) }
     ensures fits { IfOk result (IsGraceEvent readers rows) }
 {
     Ok(GraceEvent::Scan(reader_of(words, readers)?))

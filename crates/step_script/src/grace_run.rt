@@ -1,7 +1,7 @@
 //! The run of a script of the grace core.
 
 ghost use Rattle.std.specs.Prelude.{◌≡◌, ◌++◌, ◌+◌, true, None, IfOk, OnErr};
-ghost use Rattle.grace_core.specs.Refusals.{refusal};
+ghost use Rattle.grace_core.specs.Refusals.{grace_refusal};
 ghost use Rattle.grace_core.specs.States.{takes_memory};
 ghost use Rattle.step_script.specs.GraceTexts.{grace_outcome, grace_after, grace_line_text, grace_text};
 ghost use Rattle.step_script.specs.Values.{IsGraceScript, IsGraceEvent, IsGraceState};
@@ -66,7 +66,7 @@ fn grace_apply(
     ensures state { IfOk result (λ done. done.0 ≡ grace_after state event) }
     ensures outcome { IfOk result (λ done. done.1 ≡ grace_outcome state event) }
     ensures no_memory { OnErr result (takes_memory event ≡ true) }
-    ensures last { OnErr result (refusal state event ≡ None) }
+    ensures last { OnErr result (grace_refusal state event ≡ None) }
 {
     match apply(state, event) {
         Ok((state, found)) => Ok((state, Ok(found))),

@@ -1,7 +1,7 @@
 //! What is printed of an event of the grace core and of the state after it.
 
 ghost use Rattle.std.specs.Prelude.{◌≡◌, ◌++◌, ◌<◌, ℕ, OnOk, length};
-ghost use Rattle.grace_core.specs.Core.{is_free, waits};
+ghost use Rattle.grace_core.specs.Core.{is_free_row, waits};
 ghost use Rattle.grace_core.specs.States.{HasReader};
 ghost use Rattle.step_script.specs.Texts.{numbers_text};
 ghost use Rattle.step_script.specs.GraceTexts.{grace_answer_text, grace_reason_name, grace_reason_value, grace_outcome_text, tree_text, reader_text, pins_text, rows_text, grace_state_text};
@@ -129,7 +129,7 @@ fn push_rows(text: &mut Vec<u8>, state: &GraceState) -> Result<(), NoMemory>
 #[tactic(auto, unfolding(crate::specs::Texts::numbers_text))]
 fn push_free(text: &mut Vec<u8>, state: &GraceState) -> Result<(), NoMemory>
     ensures { OnOk result (text.new.items ≡ text.old.items
-        ++ numbers_text (length state.now.writer_state.words) (is_free state.now.writer_state)) }
+        ++ numbers_text (length state.now.writer_state.words) (is_free_row state.now.writer_state)) }
 {
     for row in 0..state.rows() {
         if state.is_free(Row(row)) {

@@ -4,14 +4,14 @@ ghost use Rattle.std.specs.Prelude.{◌≡◌, ◌≤◌, ◌⊎◌, ◌+◌, �
 ghost use Rattle.text_lexer.specs.Lines.{input_limit};
 ghost use Rattle.text_lexer.specs.declared.error.BadLine.{BadLine};
 ghost use Rattle.step_script.specs.Grammar.{script_of};
-ghost use Rattle.step_script.specs.Laws.{IsFirstBad, NamesNoCore};
+ghost use Rattle.step_script.specs.Laws.{IsFirstBadScriptLine, NamesNoCore};
 ghost use Rattle.step_script.specs.Output.{script_output};
 ghost use Rattle.step_script.specs.declared.script.TheConstants.{MOST_LINES, MOST_PARTS};
 
 /// The line that is named in place of a script is the first bad one, or line 1 where no line is bad and none names a core.
 pub fn first_bad_line()
     ensures { (bytes : List ℕ) (first : BadLine) → script_of bytes ≡ Err first
-        → IsFirstBad bytes first ⊎ NamesNoCore bytes first }
+        → IsFirstBadScriptLine bytes first ⊎ NamesNoCore bytes first }
 {}
 
 /// One byte more than the limit of a trace settles the output of bytes, or which line is bad first.

@@ -1,8 +1,8 @@
 //! What one line does to the script so far.
 
 ghost use Rattle.std.specs.Prelude.{◌≡◌, ◌+◌, ◌≤◌, IfOk, map};
-ghost use Rattle.text_lexer.specs.Reading.{Gives, GivesTested, Reads, line_view};
-ghost use Rattle.step_script.specs.Lines.{is_header, counted, counts_of, core_of, may_take_memory, words_may_take, line_may_take, said_to, said_by, said_in, with_said, after_line};
+ghost use Rattle.text_lexer.specs.Reading.{Gives, GivesTested, ReadsAs, line_view};
+ghost use Rattle.step_script.specs.Lines.{is_header, read_counts, counts_of, read_core, may_take_memory, words_may_take, line_may_take, said_to, said_by, said_in, with_said, after_script_line};
 ghost use Rattle.step_script.specs.Reading.{LacksOnlyIf};
 ghost use Rattle.step_script.specs.Values.{AreCounts, IsScript, IsSoFar, IsSaid};
 
@@ -29,14 +29,14 @@ pub(crate) enum Said {
 }
 
 /// The script after a line.
-#[tactic(auto, unfolding(crate::specs::Lines::after_line))]
+#[tactic(auto, unfolding(crate::specs::Lines::after_script_line))]
 pub(crate) fn after_line(
     alloc: Global,
     script: Option<Script>,
     line: &RawLine<'_>,
 ) -> Result<Option<Script>, CallError>
     requires fits { IsSoFar line.now.number script }
-    ensures value { Gives (λ next. next) result (after_line script (line_view line.now)) }
+    ensures value { Gives (λ next. next) result (after_script_line script (line_view line.now)) }
     ensures fits { IfOk result (IsSoFar (line.now.number + 1)) }
     ensures few { IfOk result (λ _. line.now.number ≤ MOST_LINES) }
 {
@@ -162,9 +162,9 @@ fn said_to(
 }
 
 /// The script without events that a line asks for which names the core.
-#[tactic(auto, unfolding(crate::specs::Lines::core_of, crate::specs::Lines::lock_of, crate::specs::Lines::grace_of))]
+#[tactic(auto, unfolding(crate::specs::Lines::read_core, crate::specs::Lines::read_lock, crate::specs::Lines::grace_of))]
 fn core_of(alloc: Global, name: &str, words: &[&str]) -> Result<Script, Cause>
-    ensures value { Reads (λ next. next) result (core_of name.now (map (λ word. word.now) words.now)) }
+    ensures value { ReadsAs (λ next. next) result (read_core name.now (map (λ word. word.now) words.now)) }
     ensures fits { IfOk result (IsScript 1) }
 {
     match name {
@@ -177,7 +177,7 @@ fn core_of(alloc: Global, name: &str, words: &[&str]) -> Result<Script, Cause>
 /// How many readers there are, and slots or rows, by the words after the name of a core.
 #[tactic(auto, unfolding(crate::specs::Lines::counts_of))]
 fn counts_of(words: &[&str]) -> Result<Counts, Cause>
-    ensures value { Reads (λ counts. counts) result (counts_of (map (λ word. word.now) words.now)) }
+    ensures value { ReadsAs (λ counts. counts) result (counts_of (map (λ word. word.now) words.now)) }
     ensures fits { IfOk result AreCounts }
 {
     match words {
@@ -187,9 +187,9 @@ fn counts_of(words: &[&str]) -> Result<Counts, Cause>
 }
 
 /// How many readers there are, and slots or rows, by these words.
-#[tactic(auto, unfolding(crate::specs::Lines::counted))]
+#[tactic(auto, unfolding(crate::specs::Lines::read_counts))]
 fn counted(readers: &str, parts: &str) -> Result<Counts, Cause>
-    ensures value { Reads (λ counts. counts) result (counted readers.now parts.now) }
+    ensures value { ReadsAs (λ counts. counts) result (read_counts readers.now parts.now) }
     ensures fits { IfOk result AreCounts }
 {
     let readers = count_of(readers)?;

@@ -1,8 +1,8 @@
 //! The events of the lock core, each from the words after its name.
 
 ghost use Rattle.std.specs.Prelude.{IfOk, map};
-ghost use Rattle.text_lexer.specs.Reading.{Gives, Reads};
-ghost use Rattle.step_script.specs.LockLines.{add, add_of, look_of, field, field_of, sub_of, begin_of, mark_of, store, store_of, end_by, end_of, lock_event, is_end};
+ghost use Rattle.text_lexer.specs.Reading.{Gives, ReadsAs};
+ghost use Rattle.step_script.specs.LockLines.{add, add_of, look_of, field, field_of, sub_of, begin_of, mark_of, store, store_of, end_by, read_end, lock_event, is_end};
 ghost use Rattle.step_script.specs.Reading.{LacksOnlyIf};
 ghost use Rattle.step_script.specs.Values.{IsLockEvent};
 
@@ -22,7 +22,7 @@ const WORDS_BEFORE_CALL: usize = 2;
 /// The add of these words.
 #[tactic(auto, unfolding(crate::specs::LockLines::add))]
 fn add(reader: &str, slot: &str, readers: u32, slots: u32) -> Result<LockEvent, Cause>
-    ensures value { Reads (λ event. event) result (add readers slots reader.now slot.now) }
+    ensures value { ReadsAs (λ event. event) result (add readers slots reader.now slot.now) }
     ensures fits { IfOk result (IsLockEvent readers slots) }
 {
     let reader = index_of(reader, readers)?;
@@ -33,7 +33,7 @@ fn add(reader: &str, slot: &str, readers: u32, slots: u32) -> Result<LockEvent, 
 /// `add R K`.
 #[tactic(auto, unfolding(crate::specs::LockLines::add_of))]
 fn add_of(words: &[&str], readers: u32, slots: u32) -> Result<LockEvent, Cause>
-    ensures value { Reads (λ event. event) result (add_of readers slots (map (λ word. word.now) words.now)) }
+    ensures value { ReadsAs (λ event. event) result (add_of readers slots (map (λ word. word.now) words.now)) }
     ensures fits { IfOk result (IsLockEvent readers slots) }
 {
     match words {
@@ -45,7 +45,7 @@ fn add_of(words: &[&str], readers: u32, slots: u32) -> Result<LockEvent, Cause>
 /// `look R`.
 #[tactic(auto, unfolding(crate::specs::LockLines::look_of))]
 fn look_of(words: &[&str], readers: u32, slots: u32) -> Result<LockEvent, Cause>
-    ensures value { Reads (λ event. event) result (look_of readers (map (λ word. word.now) words.now)) }
+    ensures value { ReadsAs (λ event. event) result (look_of readers (map (λ word. word.now) words.now)) }
     ensures fits { IfOk result (IsLockEvent readers slots) }
 {
     Ok(LockEvent::Look(reader_of(words, readers)?))
@@ -54,7 +54,7 @@ fn look_of(words: &[&str], readers: u32, slots: u32) -> Result<LockEvent, Cause>
 /// The read of a field that these words ask for.
 #[tactic(auto, unfolding(crate::specs::LockLines::field))]
 fn field(reader: &str, place: &str, readers: u32, slots: u32) -> Result<LockEvent, Cause>
-    ensures value { Reads (λ event. event) result (field readers reader.now place.now) }
+    ensures value { ReadsAs (λ event. event) result (field readers reader.now place.now) }
     ensures fits { IfOk result (IsLockEvent readers slots) }
 {
     let reader = index_of(reader, readers)?;
@@ -65,7 +65,7 @@ fn field(reader: &str, place: &str, readers: u32, slots: u32) -> Result<LockEven
 /// `field R I`.
 #[tactic(auto, unfolding(crate::specs::LockLines::field_of))]
 fn field_of(words: &[&str], readers: u32, slots: u32) -> Result<LockEvent, Cause>
-    ensures value { Reads (λ event. event) result (field_of readers (map (λ word. word.now) words.now)) }
+    ensures value { ReadsAs (λ event. event) result (field_of readers (map (λ word. word.now) words.now)) }
     ensures fits { IfOk result (IsLockEvent readers slots) }
 {
     match words {
@@ -77,7 +77,7 @@ fn field_of(words: &[&str], readers: u32, slots: u32) -> Result<LockEvent, Cause
 /// `sub R`.
 #[tactic(auto, unfolding(crate::specs::LockLines::sub_of))]
 fn sub_of(words: &[&str], readers: u32, slots: u32) -> Result<LockEvent, Cause>
-    ensures value { Reads (λ event. event) result (sub_of readers (map (λ word. word.now) words.now)) }
+    ensures value { ReadsAs (λ event. event) result (sub_of readers (map (λ word. word.now) words.now)) }
     ensures fits { IfOk result (IsLockEvent readers slots) }
 {
     Ok(LockEvent::Sub(reader_of(words, readers)?))
@@ -86,7 +86,7 @@ fn sub_of(words: &[&str], readers: u32, slots: u32) -> Result<LockEvent, Cause>
 /// `begin`.
 #[tactic(auto, unfolding(crate::specs::LockLines::begin_of))]
 fn begin_of(words: &[&str], readers: u32, slots: u32) -> Result<LockEvent, Cause>
-    ensures value { Reads (λ event. event) result (begin_of (map (λ word. word.now) words.now)) }
+    ensures value { ReadsAs (λ event. event) result (begin_of (map (λ word. word.now) words.now)) }
     ensures fits { IfOk result (IsLockEvent readers slots) }
 {
     match words {
@@ -98,7 +98,7 @@ fn begin_of(words: &[&str], readers: u32, slots: u32) -> Result<LockEvent, Cause
 /// `mark K`.
 #[tactic(auto, unfolding(crate::specs::LockLines::mark_of))]
 fn mark_of(words: &[&str], readers: u32, slots: u32) -> Result<LockEvent, Cause>
-    ensures value { Reads (λ event. event) result (mark_of slots (map (λ word. word.now) words.now)) }
+    ensures value { ReadsAs (λ event. event) result (mark_of slots (map (λ word. word.now) words.now)) }
     ensures fits { IfOk result (IsLockEvent readers slots) }
 {
     let [slot] = words else {
@@ -110,7 +110,7 @@ fn mark_of(words: &[&str], readers: u32, slots: u32) -> Result<LockEvent, Cause>
 /// The store of these words.
 #[tactic(auto, unfolding(crate::specs::LockLines::store))]
 fn store(slot: &str, field: &str, word: &str, readers: u32, slots: u32) -> Result<LockEvent, Cause>
-    ensures value { Reads (λ event. event) result (store slots slot.now field.now word.now) }
+    ensures value { ReadsAs (λ event. event) result (store slots slot.now field.now word.now) }
     ensures fits { IfOk result (IsLockEvent readers slots) }
 {
     let slot = index_of(slot, slots)?;
@@ -122,7 +122,7 @@ fn store(slot: &str, field: &str, word: &str, readers: u32, slots: u32) -> Resul
 /// `store K I X`.
 #[tactic(auto, unfolding(crate::specs::LockLines::store_of))]
 fn store_of(words: &[&str], readers: u32, slots: u32) -> Result<LockEvent, Cause>
-    ensures value { Reads (λ event. event) result (store_of slots (map (λ word. word.now) words.now)) }
+    ensures value { ReadsAs (λ event. event) result (store_of slots (map (λ word. word.now) words.now)) }
     ensures fits { IfOk result (IsLockEvent readers slots) }
 {
     match words {
@@ -149,7 +149,7 @@ fn end_by(
 }
 
 /// `end T CALL`.
-#[tactic(auto, unfolding(crate::specs::LockLines::end_of))]
+#[tactic(auto, unfolding(crate::specs::LockLines::read_end))]
 fn end_of(
     alloc: Global,
     text: &str,
@@ -157,7 +157,7 @@ fn end_of(
     readers: u32,
     slots: u32,
 ) -> Result<LockEvent, CallError>
-    ensures value { Gives (λ event. event) result (end_of text.now (map (λ word. word.now) words.now)) }
+    ensures value { Gives (λ event. event) result (read_end text.now (map (λ word. word.now) words.now)) }
     ensures fits { IfOk result (IsLockEvent readers slots) }
 {
     match words {

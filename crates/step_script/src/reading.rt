@@ -4,7 +4,7 @@ ghost use Rattle.std.specs.Prelude.{◌≡◌, ◌+◌, length, IfOk, None, Err}
 ghost use Rattle.text_lexer.specs.BadLines.{bad_line};
 ghost use Rattle.text_lexer.specs.declared.error.Cause.TheVariants.{Header};
 ghost use Rattle.text_lexer.specs.Lines.{raw_lines};
-ghost use Rattle.step_script.specs.Grammar.{after_lines, script_of};
+ghost use Rattle.step_script.specs.Grammar.{after_script_lines, script_of};
 ghost use Rattle.step_script.specs.Reading.{GivesRead};
 ghost use Rattle.step_script.specs.Values.{IsScript, IsSoFar};
 
@@ -38,7 +38,7 @@ fn no_core() -> ReadError
 
 /// The script that the lines of some bytes leave, or the first of them that is bad.
 fn read_lines(alloc: Global, bytes: &[u8]) -> Result<Option<Script>, ReadError>
-    ensures value { GivesRead result (after_lines None (raw_lines bytes.now)) }
+    ensures value { GivesRead result (after_script_lines None (raw_lines bytes.now)) }
     ensures fits { IfOk result (IsSoFar (MOST_LINES + 1)) }
 {
     let mut script = None;

@@ -1,15 +1,15 @@
 //! Parts of the lines of output.
 
 ghost use Rattle.std.specs.Prelude.{◌≡◌, ◌++◌, OnOk};
-ghost use Rattle.step_script.specs.Texts.{spaced, start_text, refusal_text};
+ghost use Rattle.step_script.specs.Texts.{spaced, event_start, refusal_text};
 
 use mm_types::NoMemory;
 use std::io::Write;
 
 /// Appends the start of a line: `L<line> `.
-#[tactic(auto, unfolding(crate::specs::Texts::start_text))]
+#[tactic(auto, unfolding(crate::specs::Texts::event_start))]
 pub(crate) fn push_start(text: &mut Vec<u8>, number: u64) -> Result<(), NoMemory>
-    ensures { OnOk result (text.new.items ≡ text.old.items ++ start_text number) }
+    ensures { OnOk result (text.new.items ≡ text.old.items ++ event_start number) }
 {
     write!(text, "L{number} ").map_err(|_| NoMemory)
 }

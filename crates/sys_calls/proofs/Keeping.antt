@@ -14,7 +14,7 @@ use Rattle.area_rules.specs.Tables.{AddressSpace, space_of, counters_of}
 use Rattle.area_rules.specs.Steps.{step, opening, IsReady}
 use Rattle.area_rules.proofs.Limits.{limit_between}
 use Rattle.area_rules.proofs.Stepping.{IsCounted, step_counted, step_objects, step_private, step_bounded}
-use Rattle.split_merge.specs.Plans.{IsKept}
+use Rattle.split_merge.specs.Plans.{IsPlannedFor}
 
 -- each area's object is at most the count
 abbrev pub Counts : AddressSpace → Type 0
@@ -22,7 +22,7 @@ Counts space = All (λ area. area.object ≤ space.objects) space.areas
 
 -- a list that is kept for the numbers of a configuration is sound for it
 pub kept_sound : (config : Config) (bounds : Bounds) (most : ℕ) (areas : List Record) → bounds ≡ bounds_of config → most ≡ config.areas
-    → IsKept bounds most areas → IsSound config areas
+    → IsPlannedFor bounds most areas → IsSound config areas
 kept_sound config bounds most areas numbers allowed kept = record {
   canonical = subst (λ (b : Bounds). IsCanonical b.limit areas) numbers kept.canonical;
   few = omega (arith, kept.few, allowed);

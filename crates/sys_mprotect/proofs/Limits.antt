@@ -14,8 +14,7 @@ use Rattle.area_list.specs.Areas.{IsCanonical, area_at, has_page, page_map}
 use Rattle.area_list.specs.declared.attributes.AttrChange.TheVariants.{Protection}
 use Rattle.area_list.specs.Attributes.{changed_page}
 use Rattle.area_list.specs.Changes.{protected_list}
-use Rattle.area_rules.specs.Laws.{IsStop, prefix_of}
-use Rattle.area_rules.specs.Mprotect.{may_have, stop_of, stop_error, protected_prefix}
+use Rattle.area_rules.specs.Mprotect.{may_have, stop_of, stop_error, protected_prefix, IsStop, prefix_of}
 use Rattle.area_list.proofs.Elements.{Each-always}
 use Rattle.area_rules.proofs.Stopping.{stop_before, may_not_unmapped}
 use Rattle.area_list.proofs.Order.{IsGood, good_from_canonical}

@@ -11,7 +11,7 @@ ghost use Rattle.area_rules.specs.Munmap.{range_of};
 ghost use Rattle.area_rules.specs.Tables.{space_of};
 ghost use Rattle.mm_types.specs.Rows.{first_row};
 ghost use Rattle.split_merge.specs.Calls.{IsPrepared, IsPlannedCall};
-ghost use Rattle.split_merge.specs.Plans.{IsLocal, Makes, IsKept, IsFresh};
+ghost use Rattle.split_merge.specs.Plans.{IsLocal, Makes, IsPlannedFor, IsFreshPlan};
 
 use area_list::page_of;
 use area_rules::{mprotect_answer, range_of, stopped_reply};
@@ -28,9 +28,9 @@ fn plan_prefix<A: Areas>(
     plan: &mut Plan,
 ) -> Option<Errno>
     requires limit { limit ≡ (A.bounds areas.now).limit }
-    requires list { IsKept (A.bounds areas.now) (A.most areas.now) (A.list areas.now) }
+    requires list { IsPlannedFor (A.bounds areas.now) (A.most areas.now) (A.list areas.now) }
     requires some_pages { range.lo < range.hi }
-    requires fresh { IsFresh (A.most areas.now) plan.old }
+    requires fresh { IsFreshPlan (A.most areas.now) plan.old }
     ensures error { let stop = stop_of prot range (A.list areas.now) in
         result ≡ stop_error range stop (area_at (A.list areas.now) stop) }
     ensures makes { Makes plan.new.changes (A.list areas.now) (protected_prefix prot range (A.list areas.now)) }

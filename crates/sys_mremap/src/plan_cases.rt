@@ -2,7 +2,7 @@
 ghost use Rattle.std.specs.Prelude.{◌≡◌, ◌<◌, ◌≤◌, ◌^◌, true, IfSome};
 ghost use Rattle.area_list.specs.Areas.{page_of};
 ghost use Rattle.area_rules.specs.Mremap.{old_range, lengthens, shrunk_list, lengthened_list, has_room, mremap_change};
-ghost use Rattle.split_merge.specs.Plans.{IsKept, IsFresh};
+ghost use Rattle.split_merge.specs.Plans.{IsPlannedFor, IsFreshPlan};
 ghost use Rattle.sys_mremap.specs.Internal.Cases.{IsAdmitted, goes_elsewhere, MakesAt, PlansChange};
 
 use crate::destination::{goes_elsewhere, other_place};
@@ -21,7 +21,7 @@ fn plan_elsewhere<A: Areas>(
 ) -> Option<u64>
     requires admitted { IsAdmitted config.now (A.bounds areas.now) (A.most areas.now) (A.list areas.now) args.now area.now }
     requires elsewhere { goes_elsewhere config.now (A.list areas.now) args.now ≡ true }
-    requires fresh { IsFresh (A.most areas.now) plan.old }
+    requires fresh { IsFreshPlan (A.most areas.now) plan.old }
     ensures change { PlansChange args.now plan.new.changes (A.list areas.now) (mremap_change config.now (A.list areas.now) area.now args.now) result }
     ensures low { IfSome result (λ page. page < 2 ^ 52) }
     ensures room { plan.new.room ≡ plan.old.room }
@@ -47,7 +47,7 @@ fn plan_longer<A: Areas>(
     requires admitted { IsAdmitted config.now (A.bounds areas.now) (A.most areas.now) (A.list areas.now) args.now area.now }
     requires longer { lengthens args.now ≡ true }
     requires has_room { has_room config.now (A.list areas.now) args.now ≡ true }
-    requires fresh { IsFresh (A.most areas.now) plan.old }
+    requires fresh { IsFreshPlan (A.most areas.now) plan.old }
     ensures made { MakesAt (page_of args.now.old) args.now plan.new.changes (A.list areas.now) (lengthened_list (A.list areas.now) area.now args.now) }
     ensures room { plan.new.room ≡ plan.old.room }
 {
@@ -57,9 +57,9 @@ fn plan_longer<A: Areas>(
 
 /// Plans that nothing of the old range is left past the new length.
 fn plan_shrinking<A: Areas>(areas: &A, args: &MremapArgs, plan: &mut Plan)
-    requires list { IsKept (A.bounds areas.now) (A.most areas.now) (A.list areas.now) }
+    requires list { IsPlannedFor (A.bounds areas.now) (A.most areas.now) (A.list areas.now) }
     requires within { (old_range args.now).hi ≤ (A.bounds areas.now).limit }
-    requires fresh { IsFresh (A.most areas.now) plan.old }
+    requires fresh { IsFreshPlan (A.most areas.now) plan.old }
     ensures made { MakesAt (page_of args.now.old) args.now plan.new.changes (A.list areas.now) (shrunk_list (A.list areas.now) args.now) }
     ensures room { plan.new.room ≡ plan.old.room }
 {
@@ -83,7 +83,7 @@ pub(crate) fn plan_change<A: Areas>(
     plan: &mut Plan,
 ) -> Option<u64>
     requires admitted { IsAdmitted config.now (A.bounds areas.now) (A.most areas.now) (A.list areas.now) args.now area.now }
-    requires fresh { IsFresh (A.most areas.now) plan.old }
+    requires fresh { IsFreshPlan (A.most areas.now) plan.old }
     ensures change { PlansChange args.now plan.new.changes (A.list areas.now) (mremap_change config.now (A.list areas.now) area.now args.now) result }
     ensures low { IfSome result (λ page. page < 2 ^ 52) }
     ensures room { plan.new.room ≡ plan.old.room }

@@ -13,7 +13,7 @@ use Rattle.area_rules.specs.Steps.{step, step_unsealed}
 use Rattle.area_rules.proofs.Guarding.{step_guarded}
 use Rattle.area_rules.specs.Tables.{AddressSpace, Outcome, counters_of}
 use Rattle.split_merge.specs.declared.planned.Planned.{Planned}
-use Rattle.split_merge.specs.Plans.{PlanView, IsKept}
+use Rattle.split_merge.specs.Plans.{PlanView, IsPlannedFor}
 use Rattle.split_merge.proofs.Refusing.{nothing_made}
 use Rattle.sys_seal.specs.Guards.{IsPlannedWhole}
 
@@ -21,7 +21,7 @@ use Rattle.sys_seal.specs.Guards.{IsPlannedWhole}
 abbrev refusal : AddressSpace → Outcome
 refusal space = record { space = space; reply = Refused Eperm }
 
-module _ {bounds : Bounds} {most : ℕ} {areas : List Record} (kept : IsKept bounds most areas) (call : Call) (before : Counters) (planned : Planned)
+module _ {bounds : Bounds} {most : ℕ} {areas : List Record} (kept : IsPlannedFor bounds most areas) (call : Call) (before : Counters) (planned : Planned)
     (plan new : PlanView) (none : new.changes ≡ []) (room : new.room ≡ plan.room) (sealed : is_sealed_off areas call planned.reply ≡ true) where
   refused_now : (space : AddressSpace) (outcome : Outcome) → space.areas ≡ areas → planned.reply ≡ outcome.reply → guarded space call outcome ≡ refusal space
   unfolding guarded
@@ -39,7 +39,7 @@ module _ {bounds : Bounds} {most : ℕ} {areas : List Record} (kept : IsKept bou
         planned = record {
           reply = refl;
           makes = nothing_made new.changes areas space.areas none same;
-          kept = subst (IsKept bounds most) (sym made.result) kept;
+          kept = subst (IsPlannedFor bounds most) (sym made.result) kept;
           room = room ∙ p.planned.room;
         };
         counters = sym counted;

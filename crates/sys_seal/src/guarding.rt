@@ -8,7 +8,7 @@ ghost use Rattle.area_rules.specs.Seals.{has_sealed};
 ghost use Rattle.area_rules.specs.Steps.{step, step_unsealed};
 ghost use Rattle.area_rules.specs.Tables.{AddressSpace, counters_of};
 ghost use Rattle.mm_types.specs.declared.config.Config.{Config};
-ghost use Rattle.split_merge.specs.Plans.{PlanView, IsKept};
+ghost use Rattle.split_merge.specs.Plans.{PlanView, IsPlannedFor};
 ghost use Rattle.sys_seal.specs.Guards.{IsPlannedWhole};
 
 use area_rules::guarded_ranges;
@@ -46,7 +46,7 @@ pub fn guard<A: Areas>(
     planned: Planned,
     plan: &mut Plan,
 ) -> Planned
-    requires { IsKept (A.bounds areas.now) (A.most areas.now) (A.list areas.now) }
+    requires { IsPlannedFor (A.bounds areas.now) (A.most areas.now) (A.list areas.now) }
     ensures planned { (config : Config) (space : AddressSpace) (fresh : PlanView) → space.areas ≡ A.list areas.now
         → counters_of space ≡ before
         → IsPlannedWhole (A.bounds areas.now) (A.most areas.now) (A.list areas.now) (step_unsealed config space call.now) planned fresh plan.old

@@ -11,9 +11,9 @@ use Rattle.text_lexer.specs.BadLines.{bad_line}
 use Rattle.text_lexer.specs.Lines.{RawLine}
 
 -- what was answered without memory, seen by view, is what the definition gives, and so is its cause
-abbrev pub Reads : {X Y : Type 0} → (X → Y) → Result X Cause → Result Y Cause → Type 0
-Reads view (Ok x) read = read ≡ Ok (view x)
-Reads view (Err cause) read = read ≡ Err cause
+abbrev pub ReadsAs : {X Y : Type 0} → (X → Y) → Result X Cause → Result Y Cause → Type 0
+ReadsAs view (Ok x) read = read ≡ Ok (view x)
+ReadsAs view (Err cause) read = read ≡ Err cause
 
 -- a cause is that of the definition; out of memory is free
 abbrev pub Fails : {Y : Type 0} → CallError → Result Y Cause → Type 0

@@ -2,7 +2,7 @@
 
 ghost use Rattle.std.specs.Prelude.{◌≡◌, ◌<◌, ◌+◌, ◌-◌, ◌∷◌, length};
 ghost use Rattle.text_lexer.specs.Lines.{lines_from, is_longer_than, text_of, text_within};
-ghost use Rattle.text_lexer.specs.Reading.{Reads, line_view};
+ghost use Rattle.text_lexer.specs.Reading.{ReadsAs, line_view};
 
 use crate::error::Cause;
 use crate::limits::{INPUT_LIMIT, LINE_LIMIT};
@@ -68,7 +68,7 @@ pub fn text_within<'a>(
     line_limit: usize,
     file_limit: usize,
 ) -> Result<&'a str, Cause>
-    ensures { Reads (λ text. text.now) result (text_within line_limit file_limit (line_view line.now)) }
+    ensures { ReadsAs (λ text. text.now) result (text_within line_limit file_limit (line_view line.now)) }
 {
     if is_longer_than(line, line_limit, file_limit) {
         return Err(Cause::TooLong);
@@ -85,7 +85,7 @@ pub fn text_within<'a>(
 /// The text of a line of a trace or of a script: `text_within` its limits, `LINE_LIMIT` and `INPUT_LIMIT`.
 #[tactic(auto, unfolding(crate::specs::Lines::input_limit))]
 pub fn text_of<'a>(line: &RawLine<'a>) -> Result<&'a str, Cause>
-    ensures { Reads (λ text. text.now) result (text_of (line_view line.now)) }
+    ensures { ReadsAs (λ text. text.now) result (text_of (line_view line.now)) }
 {
     text_within(line, LINE_LIMIT, INPUT_LIMIT)
 }

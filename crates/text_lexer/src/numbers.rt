@@ -5,7 +5,7 @@ ghost use Rattle.std.specs.Char.{digit_value, is_digit};
 ghost use Rattle.std.specs.List.{list_all};
 ghost use Rattle.std.specs.Str.Parse.{digits_value};
 ghost use Rattle.text_lexer.specs.Numbers.{decimal_of, digits_of, is_lower_digit, lower_hexadecimal_of, number, number_in, number_of};
-ghost use Rattle.text_lexer.specs.Reading.{Reads};
+ghost use Rattle.text_lexer.specs.Reading.{ReadsAs};
 
 use crate::error::Cause;
 
@@ -35,7 +35,7 @@ pub fn decimal_of(word: &str) -> Option<u64>
 /// The number that a word is; else `Cause::Number`.
 #[tactic(auto, unfolding(crate::specs::Numbers::number))]
 pub fn number(word: &str) -> Result<u64, Cause>
-    ensures { Reads (λ n. n) result (number word.now) }
+    ensures { ReadsAs (λ n. n) result (number word.now) }
 {
     number_of(word).ok_or(Cause::Number)
 }
@@ -43,7 +43,7 @@ pub fn number(word: &str) -> Result<u64, Cause>
 /// A number from `low` up to and including `high`; else `Cause::Number`.
 #[tactic(auto, unfolding(crate::specs::Numbers::number_in))]
 pub fn number_in(word: &str, low: u64, high: u64) -> Result<u64, Cause>
-    ensures value { Reads (λ n. n) result (number_in low high word.now) }
+    ensures value { ReadsAs (λ n. n) result (number_in low high word.now) }
     ensures above { IfOk result (λ n. low ≤ n) }
     ensures within { IfOk result (λ n. n ≤ high) }
 {

@@ -12,8 +12,8 @@ use Rattle.text_lexer.specs.declared.limits.TheConstants.{LINE_LIMIT}
 use Rattle.trace_reader.specs.declared.trace.Trace.{Trace}
 use Rattle.text_lexer.specs.Causes.{◌>>=◌}
 use Rattle.text_lexer.specs.BadLines.{bad_line, at_line, lines_leave}
-use Rattle.trace_reader.specs.Grammar.{nothing, lines_read, whole, trace_of}
-use Rattle.trace_reader.specs.Lines.{SoFar, with_header, after_words, after_line}
+use Rattle.trace_reader.specs.Grammar.{nothing, lines_read, whole_trace, trace_of}
+use Rattle.trace_reader.specs.Lines.{SoFar, with_header, after_words, after_trace_line}
 use Rattle.text_lexer.specs.Lines.{input_limit, RawLine, raw_line, raw_lines, is_newline, lines_from}
 use Rattle.text_lexer.specs.Words.{words_of}
 use Rattle.text_lexer.proofs.Beginnings.{IsLimited, lines_leave-front, lines_leave-within}
@@ -22,15 +22,15 @@ use Rattle.text_lexer.proofs.RawPieces.{lines_from-newline, lines_from-none}
 use Rattle.text_lexer.proofs.WordParts.{position_or_len-le}
 
 -- the lines of a trace are limited
-after_line-limited : IsLimited input_limit after_line
-unfolding after_line
+after_line-limited : IsLimited input_limit after_trace_line
+unfolding after_trace_line
 after_line-limited before line past =
     ap (λ (r : Result (List ℕ) Cause). r >>= λ text. if nat_eq line.number 1 then with_header before (words_of text)
     else after_words before line.number text (words_of text)) (text_within-past LINE_LIMIT input_limit line past)
 
 lines_read-front : (bytes : List ℕ) → lines_read (take (input_limit + 1) bytes) ≡ lines_read bytes
 unfolding lines_read
-lines_read-front bytes = lines_leave-front input_limit after_line after_line-limited nothing bytes
+lines_read-front bytes = lines_leave-front input_limit after_trace_line after_line-limited nothing bytes
 
 none_in_front : (limit : ℕ) (bytes : List ℕ) → nat_eq (length (take (limit + 1) bytes)) 0 ≡ nat_eq (length bytes) 0
 none_in_front limit bytes = grind (arith, nat_tests, length-take (limit + 1) bytes)
@@ -38,12 +38,12 @@ none_in_front limit bytes = grind (arith, nat_tests, length-take (limit + 1) byt
 pub trace_of-front : (bytes : List ℕ) → trace_of (take (input_limit + 1) bytes) ≡ trace_of bytes
 unfolding trace_of
 trace_of-front bytes =
-    ap (λ (none : Bool). if none then Err (bad_line 1 Header) else whole (lines_read (take (input_limit + 1) bytes)))
+    ap (λ (none : Bool). if none then Err (bad_line 1 Header) else whole_trace (lines_read (take (input_limit + 1) bytes)))
     (none_in_front input_limit bytes)
-    ∙ ap (λ (read : Result SoFar BadLine). if nat_eq (length bytes) 0 then Err (bad_line 1 Header) else whole read)
+    ∙ ap (λ (read : Result SoFar BadLine). if nat_eq (length bytes) 0 then Err (bad_line 1 Header) else whole_trace read)
     (lines_read-front bytes)
 
-whole_read : (r : Result SoFar BadLine) (trace : Trace) → whole r ≡ Ok trace → (read : SoFar) × (r ≡ Ok read)
+whole_read : (r : Result SoFar BadLine) (trace : Trace) → whole_trace r ≡ Ok trace → (read : SoFar) × (r ≡ Ok read)
 whole_read (Ok read) trace is = (read, refl)
 whole_read (Err first) trace is = absurd cc
 
@@ -52,8 +52,8 @@ pub trace_within : (bytes : List ℕ) (trace : Trace) → trace_of bytes ≡ Ok 
 unfolding trace_of lines_read
 trace_within bytes trace is = elim (cases_lt 0 (length bytes)) [
   | inl some ↦
-      let read = whole_read (lines_read bytes) trace (sym (ap (λ (t : Bool). if t then Err (bad_line 1 Header) else whole (lines_read bytes)) (is_some_length (length bytes) some)) ∙ is) in
-      lines_leave-within input_limit after_line after_line-limited nothing read.0 bytes read.1
+      let read = whole_read (lines_read bytes) trace (sym (ap (λ (t : Bool). if t then Err (bad_line 1 Header) else whole_trace (lines_read bytes)) (is_some_length (length bytes) some)) ∙ is) in
+      lines_leave-within input_limit after_trace_line after_line-limited nothing read.0 bytes read.1
   | inr none ↦ omega arith
 ]
   where

@@ -11,10 +11,10 @@ use Rattle.flag_table.specs.Tables.{map_flags, mremap_flags}
 use Rattle.text_lexer.specs.declared.error.Cause.{Cause}
 use Rattle.text_lexer.specs.declared.error.Cause.TheVariants.{Word, Number}
 use Rattle.text_lexer.specs.Causes.{◌>>=◌}
-use Rattle.trace_reader.specs.Calls.{mmap, mmap_of, munmap, munmap_of, mprotect, mprotect_of, number_if, mremap, mremap_of, brk_of, mseal, mseal_of, call_named}
+use Rattle.trace_reader.specs.Calls.{read_mmap, mmap_of, read_munmap, munmap_of, read_mprotect, mprotect_of, number_if, read_mremap, mremap_of, brk_of, read_mseal, mseal_of, call_named}
 use Rattle.text_lexer.specs.Numbers.{number, decimal_of}
-use Rattle.trace_reader.specs.Fields.{mapped_descriptor, access, flags, prot, thread_of}
-use Rattle.trace_reader.specs.Operations.{fault, fault_of, maps_of, fork_of, called, op_named, op_of, line_named}
+use Rattle.trace_reader.specs.Fields.{mapped_descriptor, access, flags, read_prot, read_thread}
+use Rattle.trace_reader.specs.Operations.{read_fault, fault_of, read_maps, read_fork, read_op_of_call, op_named, read_op, line_named}
 use Rattle.trace_reader.specs.Values.{IsCallValue, IsOpValue}
 use Rattle.trace_reader.proofs.FieldValues.{IsWord, IsDescriptor, ok_or-holds, number-value, decimal_of-value, thread_of-value, mapped_descriptor-value, map_flags-value, mremap_flags-value}
 
@@ -80,20 +80,20 @@ fault_fits (Ok a) (Err c) ha = tt
 
 -- each form by its words
 mmap_of-value : (words : List (List ℕ)) → IfOk (mmap_of words) IsCallValue
-unfolding mmap_of mmap
+unfolding mmap_of read_mmap
 mmap_of-value (addr ∷ len ∷ allowed ∷ kind ∷ fd ∷ offset ∷ []) =
-    mmap_fits (number addr) (number len) (prot allowed) (flags map_flags kind) (mapped_descriptor fd) (number offset)
+    mmap_fits (number addr) (number len) (read_prot allowed) (flags map_flags kind) (mapped_descriptor fd) (number offset)
     (number-value addr) (number-value len) (map_flags-value kind) (mapped_descriptor-value fd) (number-value offset)
 mmap_of-value _ = tt
 
 munmap_of-value : (words : List (List ℕ)) → IfOk (munmap_of words) IsCallValue
-unfolding munmap_of munmap
+unfolding munmap_of read_munmap
 munmap_of-value (addr ∷ len ∷ []) = munmap_fits (number addr) (number len) (number-value addr) (number-value len)
 munmap_of-value _ = tt
 
 mprotect_of-value : (words : List (List ℕ)) → IfOk (mprotect_of words) IsCallValue
-unfolding mprotect_of mprotect
-mprotect_of-value (addr ∷ len ∷ allowed ∷ []) = mprotect_fits (number addr) (number len) (prot allowed)
+unfolding mprotect_of read_mprotect
+mprotect_of-value (addr ∷ len ∷ allowed ∷ []) = mprotect_fits (number addr) (number len) (read_prot allowed)
     (number-value addr) (number-value len)
 mprotect_of-value _ = tt
 
@@ -107,8 +107,8 @@ number_if-value (Some word) = by_number (number word) (number-value word)
     by_number (Err c) h = tt
 
 mremap-value : (old old_len new_len how : List ℕ) (new : Option (List ℕ))
-    → IfOk (mremap old old_len new_len how new) IsCallValue
-unfolding mremap
+    → IfOk (read_mremap old old_len new_len how new) IsCallValue
+unfolding read_mremap
 mremap-value old old_len new_len how new = mremap_fits (number old) (number old_len) (number new_len)
     (flags mremap_flags how) (number_if new)
     (number-value old) (number-value old_len) (number-value new_len) (mremap_flags-value how) (number_if-value new)
@@ -131,7 +131,7 @@ brk_of-value (addr ∷ []) = of_field IsCallValue Brk (λ n h. h) (number addr) 
 brk_of-value _ = tt
 
 mseal_of-value : (words : List (List ℕ)) → IfOk (mseal_of words) IsCallValue
-unfolding mseal_of mseal
+unfolding mseal_of read_mseal
 mseal_of-value (addr ∷ len ∷ options ∷ []) = mseal_fits (number addr) (number len) (number options)
     (number-value addr) (number-value len) (number-value options)
 mseal_of-value _ = tt
@@ -150,12 +150,12 @@ call_named-value name words =
     (either IsCallValue (bytes_eq name (codes "mremap")) (mremap_of words) (Err Word) (mremap_of-value words) tt)))
 
 fault_of-value : (words : List (List ℕ)) → IfOk (fault_of words) IsOpValue
-unfolding fault_of fault
+unfolding fault_of read_fault
 fault_of-value (addr ∷ wanted ∷ []) = fault_fits (number addr) (access wanted) (number-value addr)
 fault_of-value _ = tt
 
-maps_of-value : (words : List (List ℕ)) → IfOk (maps_of words) IsOpValue
-unfolding maps_of
+maps_of-value : (words : List (List ℕ)) → IfOk (read_maps words) IsOpValue
+unfolding read_maps
 maps_of-value [] = tt
 maps_of-value _ = tt
 
@@ -163,9 +163,9 @@ call_op : (r : Result Call Cause) → IfOk r IsCallValue → IfOk (r >>= λ call
 call_op (Ok call) h = h
 call_op (Err c) h = tt
 
-fork_of-value : (words : List (List ℕ)) → IfOk (fork_of words) IsOpValue
-unfolding fork_of
-fork_of-value (child ∷ []) = forked (ok_or (thread_of child) Number) (ok_or-holds (λ n. n < 64) (thread_of child) Number (thread_of-value child))
+fork_of-value : (words : List (List ℕ)) → IfOk (read_fork words) IsOpValue
+unfolding read_fork
+fork_of-value (child ∷ []) = forked (ok_or (read_thread child) Number) (ok_or-holds (λ n. n < 64) (read_thread child) Number (thread_of-value child))
   where
     forked : (r : Result ℕ Cause) → IfOk r (λ n. n < 64) → IfOk (r >>= λ c. Ok (ops.Fork c)) IsOpValue
     forked (Ok c) h = h
@@ -176,14 +176,14 @@ op_named-value : (name : List ℕ) (words : List (List ℕ)) → IfOk (op_named 
 unfolding op_named
 op_named-value name words =
     either IsOpValue (bytes_eq name (codes "fault")) (fault_of words) _ (fault_of-value words)
-    (either IsOpValue (bytes_eq name (codes "maps")) (maps_of words) _ (maps_of-value words)
-    (either IsOpValue (bytes_eq name (codes "fork")) (fork_of words) _ (fork_of-value words)
-    (either IsOpValue (bytes_eq name (codes "brk")) (called (brk_of words)) _ (call_op (brk_of words) (brk_of-value words))
-    (either IsOpValue (bytes_eq name (codes "mseal")) (called (mseal_of words)) _ (call_op (mseal_of words) (mseal_of-value words))
+    (either IsOpValue (bytes_eq name (codes "maps")) (read_maps words) _ (maps_of-value words)
+    (either IsOpValue (bytes_eq name (codes "fork")) (read_fork words) _ (fork_of-value words)
+    (either IsOpValue (bytes_eq name (codes "brk")) (read_op_of_call (brk_of words)) _ (call_op (brk_of words) (brk_of-value words))
+    (either IsOpValue (bytes_eq name (codes "mseal")) (read_op_of_call (mseal_of words)) _ (call_op (mseal_of words) (mseal_of-value words))
     (call_op (call_named name words) (call_named-value name words))))))
 
-pub op_of-value : (words : List (List ℕ)) → IfOk (op_of words) IsOpValue
-unfolding op_of
+pub op_of-value : (words : List (List ℕ)) → IfOk (read_op words) IsOpValue
+unfolding read_op
 op_of-value [] = tt
 op_of-value (name ∷ words) = op_named-value name words
 

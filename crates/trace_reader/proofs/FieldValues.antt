@@ -5,9 +5,9 @@ use Rattle.std.proofs.lemmas.Int.{ints}
 use Rattle.std.proofs.lemmas.Nat.{and_le_r}
 use Rattle.mm_types.specs.declared.config.TheConstants.{PAGE_SIZE, ADDRESS_LIMIT}
 use Rattle.mm_types.specs.Config.{IsBound}
-use Rattle.flag_table.specs.Laws.{IsSound}
+use Rattle.flag_table.specs.Laws.{IsSoundTable}
 use Rattle.flag_table.specs.Reading.{reading}
-use Rattle.flag_table.specs.Tables.{Table, map_flags, mremap_flags, bits_of}
+use Rattle.flag_table.specs.Tables.{FlagNames, map_flags, mremap_flags, bits_of}
 use Rattle.flag_table.specs.declared.error.NameError.{NameError}
 use Rattle.flag_table.proofs.Sound.{map_is_sound, mremap_is_sound}
 use Rattle.flag_table.proofs.Texts.{HasRows-reading}
@@ -15,7 +15,7 @@ use Rattle.text_lexer.specs.declared.error.Cause.{Cause}
 use Rattle.text_lexer.specs.declared.error.Cause.TheVariants.{Number, Flag}
 use Rattle.text_lexer.specs.Causes.{◌>>=◌}
 use Rattle.text_lexer.specs.Numbers.{number, number_in, digits_of, number_of, decimal_of}
-use Rattle.trace_reader.specs.Fields.{bound, descriptor, mapped_descriptor, or_flag, flags, thread_of}
+use Rattle.trace_reader.specs.Fields.{bound, descriptor, mapped_descriptor, or_flag, flags, read_thread}
 use Rattle.trace_reader.specs.declared.limits.TheConstants.{GREATEST_THREAD}
 use Rattle.text_lexer.proofs.Digits.{digits_of-Some}
 
@@ -106,7 +106,7 @@ mapped_descriptor-value word = cond_both (bytes_eq word (codes "-1")) (Ok (negsu
     (λ _. (omega (arith, ints), omega (arith, ints))) (λ _. descriptor-value word)
 
 -- flags fit 32 bits where all the bits of their table do
-flags-value : (table : Table) (word : List ℕ) → IsSound table → bits_of table.rows < 2 ^ 32
+flags-value : (table : FlagNames) (word : List ℕ) → IsSoundTable table → bits_of table.rows < 2 ^ 32
     → IfOk (flags table word) (λ bits. bits < 2 ^ 32)
 unfolding flags
 flags-value table word sound small = by_reading (reading table word) refl
@@ -131,8 +131,8 @@ map_flags-value word = flags-value map_flags word map_is_sound small_map
 pub mremap_flags-value : (word : List ℕ) → IfOk (flags mremap_flags word) (λ bits. bits < 2 ^ 32)
 mremap_flags-value word = flags-value mremap_flags word mremap_is_sound small_mremap
 
-pub thread_of-value : (word : List ℕ) → IfSome (thread_of word) (λ n. n < 64)
-unfolding thread_of
+pub thread_of-value : (word : List ℕ) → IfSome (read_thread word) (λ n. n < 64)
+unfolding read_thread
 thread_of-value word = of_option (digits_of 10 20 word)
   where
     of_option : (o : Option ℕ) → IfSome (option_and_then (λ n. if nat_le n GREATEST_THREAD then Some n else None) o) (λ n. n < 64)

@@ -16,8 +16,8 @@ use Rattle.text_lexer.specs.declared.error.Cause.TheVariants.{Header}
 use Rattle.trace_reader.specs.declared.trace.Op.{Op}
 use Rattle.trace_reader.specs.declared.trace.TraceLine.{TraceLine}
 use Rattle.text_lexer.specs.BadLines.{bad_line, at_line}
-use Rattle.trace_reader.specs.Grammar.{nothing, after_lines, lines_read, trace_so_far, whole, trace_of}
-use Rattle.trace_reader.specs.Lines.{SoFar, version_numbered, version_of, with_header, names_rightly, forks_rightly, is_full, with_one, with_line, after_words, after_line}
+use Rattle.trace_reader.specs.Grammar.{nothing, after_trace_lines, lines_read, trace_so_far, whole_trace, trace_of}
+use Rattle.trace_reader.specs.Lines.{SoFar, version_numbered, read_version, with_header, names_rightly, forks_rightly, is_full, with_one, with_line, after_words, after_trace_line}
 use Rattle.text_lexer.specs.Lines.{input_limit, raw_line, is_newline, is_longer_than, text_within, lines_of_pieces, lines_from}
 use Rattle.text_lexer.specs.Words.{is_comment, begins_with_digit, words_of}
 use Rattle.text_lexer.specs.Lines as lines
@@ -104,13 +104,13 @@ lines_from-text number start text rest single =
 
 -- a line that is read, and then those below it
 pub after_more : (so_far next : SoFar) (number start : ℕ) (text rest : List ℕ) → All (λ c. is_newline c ≡ false) text
-    → after_line so_far (raw_line number start text true) ≡ Ok next
-    → after_lines so_far (lines_from number start ((text ++ codes "\n") ++ rest))
-    ≡ after_lines next (lines_from (number + 1) (start + length text + 1) rest)
+    → after_trace_line so_far (raw_line number start text true) ≡ Ok next
+    → after_trace_lines so_far (lines_from number start ((text ++ codes "\n") ++ rest))
+    ≡ after_trace_lines next (lines_from (number + 1) (start + length text + 1) rest)
 after_more so_far next number start text rest single reads =
-    ap (λ (bytes : List ℕ). after_lines so_far (lines_from number start bytes)) (append_assoc text (10 ∷ []) rest)
-    ∙ ap (after_lines so_far) (lines_from-text number start text rest single)
-    ∙ ap (λ read. at_line number read (λ after. after_lines after (lines_from (number + 1) (start + length text + 1) rest))) reads
+    ap (λ (bytes : List ℕ). after_trace_lines so_far (lines_from number start bytes)) (append_assoc text (10 ∷ []) rest)
+    ∙ ap (after_trace_lines so_far) (lines_from-text number start text rest single)
+    ∙ ap (λ read. at_line number read (λ after. after_trace_lines after (lines_from (number + 1) (start + length text + 1) rest))) reads
 
 -- ---- what a line adds
 
@@ -147,8 +147,8 @@ with_line-added so_far line room no_maps no_child alone =
 
 after_line-added : (write : Op → List (List ℕ)) (so_far : SoFar) (line : TraceLine) (start : ℕ) → 1 < line.number → IsReadableBy write line
     → length so_far.lines < 1000000 → start + length (text_by write line) + 1 ≤ input_limit
-    → after_line so_far (raw_line line.number start (text_by write line) true) ≡ Ok (with_lines so_far (line ∷ []))
-unfolding after_line
+    → after_trace_line so_far (raw_line line.number start (text_by write line) true) ≡ Ok (with_lines so_far (line ∷ []))
+unfolding after_trace_line
 after_line-added write so_far line start later is room within =
     let text = text_by write line in
     let short = length-text write line is in
@@ -165,9 +165,9 @@ after_line-added write so_far line start later is room within =
 pub after_all : (write : Op → List (List ℕ)) (lines : List TraceLine) (number start : ℕ) (so_far : SoFar) → 1 < number
     → AreNumberedFrom number lines → All (IsReadableBy write) lines → length so_far.lines + length lines ≤ 1000000
     → start + length (flat_map (line_text_by write) lines) ≤ input_limit
-    → after_lines so_far (lines_from number start (flat_map (line_text_by write) lines)) ≡ Ok (with_lines so_far lines)
+    → after_trace_lines so_far (lines_from number start (flat_map (line_text_by write) lines)) ≡ Ok (with_lines so_far lines)
 after_all write [] number start so_far later numbered are room within =
-    ap (after_lines so_far) (lines_from-nil number start)
+    ap (after_trace_lines so_far) (lines_from-nil number start)
     ∙ ap (λ (all : List TraceLine). Ok (record so_far { lines = all })) (sym (append-nil so_far.lines))
 after_all write (line ∷ others) number start so_far later numbered are room within =
     let is = All-head (IsReadableBy write) line others are in
@@ -177,8 +177,8 @@ after_all write (line ∷ others) number start so_far later numbered are room wi
     let one = length-append so_far.lines (line ∷ []) in
     let all = length-append (line_text_by write line) rest in
     let newline = length-append text (10 ∷ []) in
-    let added : after_line so_far (raw_line number start text true) ≡ Ok (with_lines so_far (line ∷ [])) =
-    ap (λ (n : ℕ). after_line so_far (raw_line n start text true)) (sym is_number)
+    let added : after_trace_line so_far (raw_line number start text true) ≡ Ok (with_lines so_far (line ∷ [])) =
+    ap (λ (n : ℕ). after_trace_line so_far (raw_line n start text true)) (sym is_number)
     ∙ after_line-added write so_far line start (omega arith) is (omega arith) (omega arith) in
     after_more so_far (with_lines so_far (line ∷ [])) number start text rest (shown-single text (text-shown write line is)) added
     ∙ after_all write others (number + 1) (start + length text + 1) (with_lines so_far (line ∷ [])) (omega arith) numbered.1
@@ -190,12 +190,12 @@ after_all write (line ∷ others) number start so_far later numbered are room wi
 header-shown : All IsShown (codes "vmatrace 1")
 header-shown = shown_from_test (codes "vmatrace 1") refl
 
-header-reads : after_line nothing (raw_line 1 0 (codes "vmatrace 1") true) ≡ Ok nothing
-unfolding after_line with_header version_of version_numbered words_of input_limit
+header-reads : after_trace_line nothing (raw_line 1 0 (codes "vmatrace 1") true) ≡ Ok nothing
+unfolding after_trace_line with_header read_version version_numbered words_of input_limit
 header-reads = rw (text_of-utf8 1 0 (codes "vmatrace 1") (shown-utf8 (codes "vmatrace 1") header-shown) (lit≤ tt) (lit≤ tt)) refl
 
 -- below the header stand the lines from number 2 on
-pub lines_read-header : (rest : List ℕ) → lines_read (codes "vmatrace 1\n" ++ rest) ≡ after_lines nothing (lines_from 2 11 rest)
+pub lines_read-header : (rest : List ℕ) → lines_read (codes "vmatrace 1\n" ++ rest) ≡ after_trace_lines nothing (lines_from 2 11 rest)
 unfolding lines_read
 lines_read-header rest =
     after_more nothing nothing 1 0 (codes "vmatrace 1") rest (shown-single (codes "vmatrace 1") header-shown) header-reads
@@ -206,4 +206,4 @@ pub trace_of-read : (bytes : List ℕ) (so_far : SoFar) → 0 < length bytes →
 unfolding trace_of
 trace_of-read bytes so_far some read =
     let apart : nat_eq (length bytes) 0 ≡ false = ne_eqb (length bytes) 0 (λ none. omega arith) in
-    cond-false (nat_eq (length bytes) 0) (Err (bad_line 1 Header)) (whole (lines_read bytes)) apart ∙ ap whole read
+    cond-false (nat_eq (length bytes) 0) (Err (bad_line 1 Header)) (whole_trace (lines_read bytes)) apart ∙ ap whole_trace read

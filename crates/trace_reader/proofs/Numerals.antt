@@ -11,8 +11,8 @@ use Rattle.std.proofs.lemmas.Fmt.{decimal_digit, decimal_is_IsNumeral, digits_is
 use Rattle.std.proofs.lemmas.List.Elements.{All-nil, All-cons, All-append}
 use Rattle.text_lexer.specs.declared.error.Cause.TheVariants.{Number}
 use Rattle.text_lexer.specs.Numbers.{number, digits_of, number_of, decimal_of}
-use Rattle.trace_reader.specs.Fields.{thread_of}
-use Rattle.trace_reader.specs.LineTexts.{hexadecimal, address_word}
+use Rattle.trace_reader.specs.Fields.{read_thread}
+use Rattle.trace_reader.specs.LineTexts.{hexadecimal_text, address_word}
 use Rattle.trace_reader.proofs.PlainWords.{IsPlain, IsWord}
 
 digit-plain : (base c : ℕ) → base ≤ 16 → digit_value c < base → IsPlain c
@@ -81,8 +81,8 @@ number-decimal n fits =
 pub decimal_of-decimal : (n : ℕ) → n < 2 ^ 64 → decimal_of (decimal n) ≡ Some n
 decimal_of-decimal n fits = digits_of-numeral 10 20 n (decimal n) (decimal-spells n fits)
 
-pub thread_of-decimal : (n : ℕ) → n < 64 → thread_of (decimal n) ≡ Some n
-unfolding thread_of
+pub thread_of-decimal : (n : ℕ) → n < 64 → read_thread (decimal n) ≡ Some n
+unfolding read_thread
 thread_of-decimal n few =
     ap (option_and_then (λ (k : ℕ). if nat_le k 63 then Some k else None))
     (digits_of-numeral 10 20 n (decimal n) (decimal-spells n (omega arith)))
@@ -124,7 +124,7 @@ hex-spells n fits = let is = hex_is_IsNumeral n fits in record {
   fits = fits;
 }
 
-pub number-hexadecimal : (n : ℕ) → n < 2 ^ 64 → number (hexadecimal n) ≡ Ok n
+pub number-hexadecimal : (n : ℕ) → n < 2 ^ 64 → number (hexadecimal_text n) ≡ Ok n
 unfolding number number_of
 number-hexadecimal n fits = ap (λ o. ok_or o Number) (digits_of-numeral 16 16 n (digits 16 false n) (hex-spells n fits))
 
@@ -143,7 +143,7 @@ zero_x = All-cons IsPlain 48 (120 ∷ []) (omega arith, omega arith) (All-cons I
 zero_plain : IsWord (codes "0")
 zero_plain = record { some = omega arith; plain = All-cons IsPlain 48 [] (omega arith, omega arith) (All-nil IsPlain) }
 
-pub hexadecimal-word : (n : ℕ) → n < 2 ^ 64 → IsWord (hexadecimal n)
+pub hexadecimal-word : (n : ℕ) → n < 2 ^ 64 → IsWord (hexadecimal_text n)
 hexadecimal-word n fits = record {
   some = omega arith;
   plain = All-append IsPlain (codes "0x") (digits 16 false n) zero_x (digits-plain 16 (digits 16 false n) (omega arith) (hex_is_IsNumeral n fits).0.1);
@@ -154,14 +154,14 @@ unfolding address_word
 address-word n fits = cond_both (nat_eq n 0) (codes "0") (codes "0x" ++ digits 16 false n) IsWord
     (λ _. zero_plain) (λ _. hexadecimal-word n fits)
 
-pub length-hexadecimal : (n : ℕ) → n < 2 ^ 64 → length (hexadecimal n) ≤ 18
+pub length-hexadecimal : (n : ℕ) → n < 2 ^ 64 → length (hexadecimal_text n) ≤ 18
 length-hexadecimal n fits = let short = hex-short n fits in omega arith
 
 -- an address that is there
-pub address_word-some : (address : ℕ) → 0 < address → address_word address ≡ hexadecimal address
+pub address_word-some : (address : ℕ) → 0 < address → address_word address ≡ hexadecimal_text address
 unfolding address_word
 address_word-some address some = let apart : nat_eq address 0 ≡ false = ne_eqb address 0 (λ none. omega arith) in
-    cond-false (nat_eq address 0) (codes "0") (hexadecimal address) apart
+    cond-false (nat_eq address 0) (codes "0") (hexadecimal_text address) apart
 
 pub length-address : (n : ℕ) → n < 2 ^ 64 → length (address_word n) ≤ 18
 unfolding address_word

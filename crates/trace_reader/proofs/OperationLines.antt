@@ -17,22 +17,22 @@ use Rattle.mm_types.specs.declared.call.Call.TheVariants.{Mmap, Munmap, Mprotect
 use Rattle.mm_types.specs.declared.config.TheConstants.{PAGE_SIZE}
 use Rattle.mm_types.specs.declared.flags.TheConstants.{MREMAP_FIXED}
 use Rattle.mm_types.specs.Flags.{has_flag}
-use Rattle.flag_table.specs.Laws.{IsSound}
+use Rattle.flag_table.specs.Laws.{IsSoundTable}
 use Rattle.flag_table.specs.Printing.{printed, rows_with}
 use Rattle.flag_table.specs.Reading.{reading, is_zero, read_words}
-use Rattle.flag_table.specs.Tables.{Row, Table, HasRows, bits_of, names_of, prot_flags, map_flags, mremap_flags}
+use Rattle.flag_table.specs.Tables.{Row, FlagNames, HasRows, bits_of, names_of, prot_flags, map_flags, mremap_flags}
 use Rattle.flag_table.proofs.Bits.{bits_of-filter}
 use Rattle.flag_table.proofs.Pairs.{All-from_test}
 use Rattle.flag_table.proofs.Sound.{map_is_sound, mremap_is_sound}
 use Rattle.flag_table.proofs.Texts.{reading-printed}
 use Rattle.trace_reader.specs.declared.trace.Op.{Op}
 use Rattle.trace_reader.specs.declared.trace.Op.TheVariants as ops
-use Rattle.trace_reader.specs.Calls.{mmap, mmap_of, munmap, munmap_of, mprotect, mprotect_of, mremap, mremap_of, number_if, brk_of, mseal, mseal_of, call_named, has_its_new}
+use Rattle.trace_reader.specs.Calls.{read_mmap, mmap_of, read_munmap, munmap_of, read_mprotect, mprotect_of, read_mremap, mremap_of, number_if, brk_of, read_mseal, mseal_of, call_named, has_its_new}
 use Rattle.text_lexer.specs.Numbers.{number, number_in}
-use Rattle.trace_reader.specs.Fields.{descriptor, mapped_descriptor, access, or_flag, flags, prot, prot_of_bits}
-use Rattle.trace_reader.specs.Operations.{fault, fault_of, maps_of, fork_of, op_named, op_of, op_has_its_new}
+use Rattle.trace_reader.specs.Fields.{descriptor, mapped_descriptor, access, or_flag, flags, read_prot, prot_of_bits}
+use Rattle.trace_reader.specs.Operations.{read_fault, fault_of, read_maps, read_fork, op_named, read_op, op_has_its_new}
 use Rattle.trace_reader.specs.Values.{IsMapping, IsOpValue}
-use Rattle.trace_reader.specs.LineTexts.{hexadecimal, address_word, prot_word, access_word, mapping_words, call_words, op_words, HasNames}
+use Rattle.trace_reader.specs.LineTexts.{hexadecimal_text, address_word, prot_word, access_word, mapping_words, call_words, op_words, HasNames}
 use Rattle.trace_reader.proofs.PlainWords.{IsPlain, IsWord}
 use Rattle.trace_reader.proofs.Numerals.{number-address, number-decimal, number-hexadecimal, thread_of-decimal, address-word, decimal-word, hexadecimal-word}
 
@@ -93,11 +93,11 @@ address-field n fits = record { word = address-word n fits; other = other }
 
 -- a protection is read as it was printed
 record IsProtWord (protection : Prot) : Type 0 where
-  reads : prot (prot_word protection) ≡ Ok protection
+  reads : read_prot (prot_word protection) ≡ Ok protection
   field : IsField (prot_word protection)
 
 prot_by_parts : (r w x : Bool) → IsProtWord (record { read = r; write = w; exec = x })
-unfolding prot prot_word prot_of_bits flags reading is_zero read_words printed prot_flags
+unfolding read_prot prot_word prot_of_bits flags reading is_zero read_words printed prot_flags
 prot_by_parts true true true = record { reads = refl; field = field_from_test _ refl }
 prot_by_parts true true false = record { reads = refl; field = field_from_test _ refl }
 prot_by_parts true false true = record { reads = refl; field = field_from_test _ refl }
@@ -111,8 +111,8 @@ prot_is_word : (protection : Prot) → IsProtWord protection
 prot_is_word protection = prot_by_parts protection.read protection.write protection.exec
 
 -- names that are fields
-record AreNames (table : Table) : Type 0 where
-  sound : IsSound table
+record AreNames (table : FlagNames) : Type 0 where
+  sound : IsSoundTable table
   rows : All (λ row. IsField row.name) table.rows
   zero : IsField table.zero
 
@@ -164,11 +164,11 @@ some_names [] bits same other = absurd (both_ways (nat_eq bits 0) other (eq-eqb 
 some_names (row ∷ rows) bits same other = omega arith
 
 -- flags of a table are read as they were printed
-pub record IsFlagWord (table : Table) (bits : ℕ) : Type 0 where
+pub record IsFlagWord (table : FlagNames) (bits : ℕ) : Type 0 where
   pub reads : flags table (printed table bits) ≡ Ok bits
   pub field : IsField (printed table bits)
 
-flag_word : (table : Table) (bits : ℕ) → AreNames table → HasRows table bits → IsFlagWord table bits
+flag_word : (table : FlagNames) (bits : ℕ) → AreNames table → HasRows table bits → IsFlagWord table bits
 unfolding flags printed
 flag_word table bits names has = record { reads = reads; field = field }
   where
@@ -231,7 +231,7 @@ all_fields (field ∷ fields) are = All-cons IsField field fields are.0 (all_fie
 pub record IsReadFrom (words : List (List ℕ)) (op : Op) : Type 0 where
   pub some : 0 < length words
   pub fields : All IsField words
-  pub reads : op_of words ≡ Ok op
+  pub reads : read_op words ≡ Ok op
   pub right : op_has_its_new op words ≡ true
 
 -- an operation that is read from its words
@@ -246,14 +246,14 @@ pub record IsNumberWord (n : ℕ) (word : List ℕ) : Type 0 where
 pub decimal_is_word : (n : ℕ) → n < 2 ^ 64 → IsNumberWord n (decimal n)
 decimal_is_word n fits = record { reads = number-decimal n fits; field = decimal-field n fits }
 
-pub hexadecimal_is_word : (n : ℕ) → n < 2 ^ 64 → IsNumberWord n (hexadecimal n)
+pub hexadecimal_is_word : (n : ℕ) → n < 2 ^ 64 → IsNumberWord n (hexadecimal_text n)
 hexadecimal_is_word n fits =
     record { reads = number-hexadecimal n fits; field = record { word = hexadecimal-word n fits; other = refl } }
 
 -- an mmap(2), whichever way its offset is written
 pub mapping_read_from : (args : MmapArgs) (offset : List ℕ) → IsMapping args → HasRows map_flags args.flags
     → IsNumberWord args.offset offset → IsReadFrom (mapping_words args offset) (ops.Call (Mmap args))
-unfolding op_of op_named call_named mmap_of mmap has_its_new
+unfolding read_op op_named call_named mmap_of read_mmap has_its_new
 mapping_read_from args offset is has written =
     let protection = prot_is_word args.prot in
     let flag = flag_word map_flags args.flags map_names has in
@@ -283,7 +283,7 @@ unfolding op_words call_words
 mapping-readable args is has = mapping_read_from args (decimal args.offset) is has (decimal_is_word args.offset is.offset)
 
 unmap-readable : (address len : ℕ) → address < 2 ^ 64 → len < 2 ^ 64 → IsReadable (ops.Call (Munmap address len))
-unfolding op_words call_words op_of op_named call_named munmap_of munmap has_its_new
+unfolding op_words call_words read_op op_named call_named munmap_of read_munmap has_its_new
 unmap-readable address len fits small = record {
   some = omega arith;
   fields = all_fields (op_words (ops.Call (Munmap address len)))
@@ -294,7 +294,7 @@ unmap-readable address len fits small = record {
 
 protect-readable : (address len : ℕ) (protection : Prot) → address < 2 ^ 64 → len < 2 ^ 64
     → IsReadable (ops.Call (Mprotect address len protection))
-unfolding op_words call_words op_of op_named call_named mprotect_of mprotect has_its_new
+unfolding op_words call_words read_op op_named call_named mprotect_of read_mprotect has_its_new
 protect-readable address len protection fits small = let is = prot_is_word protection in record {
   some = omega arith;
   fields = all_fields (op_words (ops.Call (Mprotect address len protection)))
@@ -306,7 +306,7 @@ protect-readable address len protection fits small = let is = prot_is_word prote
 move-readable : (old len new_len bits new : ℕ) → old < 2 ^ 64 → len < 2 ^ 64 → new_len < 2 ^ 64 → new < 2 ^ 64
     → HasRows mremap_flags bits → (has_flag bits MREMAP_FIXED ≡ false → new ≡ 0)
     → IsReadable (ops.Call (Mremap old len new_len bits new))
-unfolding op_words call_words op_of op_named call_named mremap_of mremap number_if has_its_new
+unfolding op_words call_words read_op op_named call_named mremap_of read_mremap number_if has_its_new
 move-readable old len new_len bits new fits small new_small there has none = by_flag (has_flag bits MREMAP_FIXED) refl
   where
     flag : IsFlagWord mremap_flags bits
@@ -353,7 +353,7 @@ move-readable old len new_len bits new fits small new_small there has none = by_
     }
 
 brk-readable : (address : ℕ) → address < 2 ^ 64 → IsReadable (ops.Call (Brk address))
-unfolding op_words call_words op_of op_named brk_of has_its_new
+unfolding op_words call_words read_op op_named brk_of has_its_new
 brk-readable address fits = record {
   some = omega arith;
   fields = all_fields (op_words (ops.Call (Brk address))) (field_from_test (codes "brk") refl, (address-field address fits, tt));
@@ -363,7 +363,7 @@ brk-readable address fits = record {
 
 seal-readable : (address len options : ℕ) → address < 2 ^ 64 → len < 2 ^ 64 → options < 2 ^ 64
     → IsReadable (ops.Call (Mseal address len options))
-unfolding op_words call_words op_of op_named mseal_of mseal has_its_new
+unfolding op_words call_words read_op op_named mseal_of read_mseal has_its_new
 seal-readable address len options fits small few = record {
   some = omega arith;
   fields = all_fields (op_words (ops.Call (Mseal address len options)))
@@ -384,7 +384,7 @@ access_is_word Write = record { reads = refl; field = field_from_test (codes "w"
 access_is_word Exec = record { reads = refl; field = field_from_test (codes "x") refl }
 
 fault-readable : (page : ℕ) (wanted : Access) → page < 2 ^ 52 → IsReadable (ops.Fault (record { 0 = page }) wanted)
-unfolding op_words op_of op_named fault_of fault
+unfolding op_words read_op op_named fault_of read_fault
 fault-readable page wanted small =
     let is = access_is_word wanted in
     let fits : PAGE_SIZE * page < 2 ^ 64 = omega arith in
@@ -398,7 +398,7 @@ fault-readable page wanted small =
     }
 
 maps-readable : IsReadable ops.Maps
-unfolding op_words op_of op_named maps_of
+unfolding op_words read_op op_named read_maps
 maps-readable = record {
   some = omega arith;
   fields = all_fields (op_words ops.Maps) (field_from_test (codes "maps") refl, tt);
@@ -407,7 +407,7 @@ maps-readable = record {
 }
 
 fork-readable : (child : ℕ) → child < 64 → IsReadable (ops.Fork child)
-unfolding op_words op_of op_named fork_of
+unfolding op_words read_op op_named read_fork
 fork-readable child few = record {
   some = omega arith;
   fields = all_fields (op_words (ops.Fork child)) (field_from_test (codes "fork") refl, (decimal-field child (omega arith), tt));

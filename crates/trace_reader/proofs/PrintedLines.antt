@@ -8,10 +8,10 @@ use Rattle.std.proofs.lemmas.List.{append-nil, length_push, get_or_push}
 use Rattle.std.proofs.lemmas.List.Elements.{All-nil, All-cons, All-append, All-weaker}
 use Rattle.trace_reader.specs.declared.trace.Op.{Op}
 use Rattle.trace_reader.specs.declared.trace.TraceLine.{TraceLine}
-use Rattle.trace_reader.specs.Operations.{note, last_word, note_of, without_note, line_named, line_of}
+use Rattle.trace_reader.specs.Operations.{note, last_word, read_note, without_note, line_named, read_line}
 use Rattle.trace_reader.specs.Values.{IsLineValue}
 use Rattle.text_lexer.specs.Words.{words_of}
-use Rattle.trace_reader.specs.LineTexts.{op_words, note_words, words_around, text_of, line_of_words, line_read, HasNames}
+use Rattle.trace_reader.specs.LineTexts.{op_words, note_words, words_around, text_of_line, line_of_words, line_read, HasNames}
 use Rattle.trace_reader.proofs.PlainWords.{IsPlain, IsWord, words_of-join}
 use Rattle.trace_reader.proofs.Numerals.{decimal-word, decimal_of-decimal, thread_of-decimal}
 use Rattle.trace_reader.proofs.OperationLines.{begins_other, IsField, plain_from_test, IsReadFrom, op-readable}
@@ -26,8 +26,8 @@ other_starts (c ∷ word) e = neither (nat_eq 97 c) _ e
     neither true x e = absurd cc
     neither false x e = refl
 
-note_of-fields : (fields : List (List ℕ)) → All IsField fields → note_of fields ≡ None
-unfolding note_of
+note_of-fields : (fields : List (List ℕ)) → All IsField fields → read_note fields ≡ None
+unfolding read_note
 note_of-fields fields are = cond_both (nat_lt 1 (length fields) && starts_with nat_eq (last_word fields) note)
     (Some (drop (length note) (last_word fields))) None (λ o. o ≡ None)
     (λ e.
@@ -48,8 +48,8 @@ last-push : (fields : List (List ℕ)) (word : List ℕ) → last_word (fields +
 last-push fields word = get_or_push fields word [] (length (fields ++ word ∷ []) - 1) (omega (arith, length_push fields word))
 
 note_of-push : (fields : List (List ℕ)) (line : List ℕ) → 0 < length fields
-    → note_of (fields ++ (note ++ line) ∷ []) ≡ Some line
-unfolding note_of
+    → read_note (fields ++ (note ++ line) ∷ []) ≡ Some line
+unfolding read_note
 note_of-push fields line some =
     let words = fields ++ (note ++ line) ∷ [] in
     let last : last_word words ≡ note ++ line = last-push fields (note ++ line) in
@@ -73,11 +73,11 @@ without_note-push fields line some =
 
 line_of-words : (number thread : ℕ) (words : List (List ℕ)) (op : Op) (after : Option ℕ) → thread < 64 → IsReadFrom words op
     → IfSome after (λ n. n < 2 ^ 64)
-    → line_of number (decimal thread) (words ++ note_words after)
+    → read_line number (decimal thread) (words ++ note_words after)
     ≡ Ok (record { number = number; thread = thread; op = op; after = after })
-unfolding line_of line_named
+unfolding read_line line_named
 line_of-words number thread words op None few is small =
-    ap (line_of number (decimal thread)) (append-nil words)
+    ap (read_line number (decimal thread)) (append-nil words)
     ∙ rw (
       thread_of-decimal thread few,
       without_note-fields words is.fields,
@@ -124,15 +124,15 @@ words_of-around words line is =
 
 -- and are read as it
 pub line_of-around : (words : List (List ℕ)) (line : TraceLine) → IsLineFrom words line
-    → line_of line.number (decimal line.thread) (words ++ note_words line.after) ≡ Ok line
+    → read_line line.number (decimal line.thread) (words ++ note_words line.after) ≡ Ok line
 line_of-around words line is = line_of-words line.number line.thread words line.op line.after is.thread is.from is.after
 
 -- so it is for the words with which each operation is printed
 pub printed_line : (line : TraceLine) → IsLineValue line → HasNames line.op → IsLineFrom (op_words line.op) line
 printed_line line is has = record { thread = is.thread; from = op-readable line.op is.op has; after = is.after }
 
-pub line_read-printed : (line : TraceLine) → IsLineValue line → HasNames line.op → line_read line.number (text_of line) ≡ Ok line
-unfolding text_of
+pub line_read-printed : (line : TraceLine) → IsLineValue line → HasNames line.op → line_read line.number (text_of_line line) ≡ Ok line
+unfolding text_of_line
 line_read-printed line is has =
     let from = printed_line line is has in
     ap (line_of_words line.number) (words_of-around (op_words line.op) line from) ∙ line_of-around (op_words line.op) line from

@@ -23,13 +23,13 @@ use Rattle.text_lexer.specs.declared.limits.TheConstants.{LINE_LIMIT}
 use Rattle.trace_reader.specs.declared.trace.Trace.{Trace}
 use Rattle.text_lexer.specs.Causes.{◌>>=◌, unless}
 use Rattle.text_lexer.specs.BadLines.{bad_line, at_line}
-use Rattle.trace_reader.specs.Grammar.{nothing, after_lines, lines_read, address_limit, config_of, trace_so_far, whole, trace_of}
-use Rattle.trace_reader.specs.Lines.{SoFar, version_of, with_header, names_rightly, forks_rightly, is_full, with_one, with_line, once, with_limit, with_top, with_min, with_heap, has_descriptor, with_file, after_setting, after_words, after_line}
+use Rattle.trace_reader.specs.Grammar.{nothing, after_trace_lines, lines_read, address_limit, config_of, trace_so_far, whole_trace, trace_of}
+use Rattle.trace_reader.specs.Lines.{SoFar, read_version, with_header, names_rightly, forks_rightly, is_full, with_one, with_line, once, with_limit, with_top, with_min, with_heap, has_descriptor, with_file, after_setting, after_words, after_trace_line}
 use Rattle.text_lexer.specs.Lines.{input_limit, is_too_long, RawLine, raw_line, is_newline, lines_of_pieces, lines_from, is_longer_than, text_within}
 use Rattle.text_lexer.specs.Words.{is_comment, begins_with_digit, words_of, text_after_words}
-use Rattle.trace_reader.specs.Fields.{thread_of}
-use Rattle.trace_reader.specs.Operations.{op_of, op_has_its_new, line_named, note_of, without_note, line_of}
-use Rattle.trace_reader.specs.Settings.{areas_of, limit_of, bound_of, file_of}
+use Rattle.trace_reader.specs.Fields.{read_thread}
+use Rattle.trace_reader.specs.Operations.{read_op, op_has_its_new, line_named, read_note, without_note, read_line}
+use Rattle.trace_reader.specs.Settings.{read_area_limit, limit_of, bound_of, read_file}
 use Rattle.trace_reader.specs.Values.{IsLineValue, IsOpValue, IsTraceValue}
 use Rattle.trace_reader.proofs.FieldValues.{IsWord, ok_or-holds, number_in-value, bound-value, thread_of-value}
 use Rattle.trace_reader.proofs.CallValues.{op_of-value, line_named-value}
@@ -104,12 +104,12 @@ line_fits number (Ok t) (Ok o) (Ok a) words fits ht ho ha = cond_both (op_has_it
     (λ _. (refl, record { number = fits; thread = ht; op = ho; after = ha })) (λ _. tt)
 
 line_of-value : (number : ℕ) (first : List ℕ) (words : List (List ℕ)) → number < 2 ^ 64
-    → IfOk (line_of number first words) (λ line. (line.number ≡ number) × IsLineValue line)
-unfolding line_of
-line_of-value number first words fits = line_fits number (ok_or (thread_of first) Thread) (op_of (without_note words))
-    (line_named (note_of words)) (without_note words) fits
-    (ok_or-holds (λ n. n < 64) (thread_of first) Thread (thread_of-value first))
-    (op_of-value (without_note words)) (line_named-value (note_of words))
+    → IfOk (read_line number first words) (λ line. (line.number ≡ number) × IsLineValue line)
+unfolding read_line
+line_of-value number first words fits = line_fits number (ok_or (read_thread first) Thread) (read_op (without_note words))
+    (line_named (read_note words)) (without_note words) fits
+    (ok_or-holds (λ n. n < 64) (read_thread first) Thread (thread_of-value first))
+    (op_of-value (without_note words)) (line_named-value (read_note words))
 
 line_added : (s : SoFar) (number : ℕ) (r : Result TraceLine Cause) → IsSoFar number s
     → IfOk r (λ line. (line.number ≡ number) × IsLineValue line) → IfOk (r >>= λ line. with_line s line) (IsSoFar (number + 1))
@@ -120,15 +120,15 @@ line_added s number (Err c) known is = tt
 
 -- ---- a line before them
 
-areas_of-value : (words : List (List ℕ)) → IfOk (areas_of words) IsCount
-unfolding areas_of
+areas_of-value : (words : List (List ℕ)) → IfOk (read_area_limit words) IsCount
+unfolding read_area_limit
 areas_of-value (count ∷ []) = number_in-value 1 MOST_AREAS count
 areas_of-value _ = tt
 
 limit_of-value : (words : List (List ℕ)) → IfOk (limit_of words) IsCount
 unfolding limit_of
 limit_of-value [] = tt
-limit_of-value (what ∷ words) = cond_both (bytes_eq what (codes "areas")) (areas_of words) (Err Word)
+limit_of-value (what ∷ words) = cond_both (bytes_eq what (codes "areas")) (read_area_limit words) (Err Word)
     (λ r. IfOk r IsCount) (λ _. areas_of-value words) (λ _. tt)
 
 bound_of-value : (words : List (List ℕ)) → IfOk (bound_of words) IsBound
@@ -235,14 +235,14 @@ after_setting-value next s text first words known =
     (either next (bytes_eq first (codes "top")) (with_top s words) _ (with_top-value next s words known)
     (either next (bytes_eq first (codes "min")) (with_min s words) _ (with_min-value next s words known)
     (either next (bytes_eq first (codes "heap")) (with_heap s words) _ (with_heap-value next s words known)
-    (either next (bytes_eq first (codes "file")) (file_of words (text_after_words 6 text) >>= λ file. with_file s file)
-    (Err Word) (file_fits next s (file_of words (text_after_words 6 text)) known) tt)))))
+    (either next (bytes_eq first (codes "file")) (read_file words (text_after_words 6 text) >>= λ file. with_file s file)
+    (Err Word) (file_fits next s (read_file words (text_after_words 6 text)) known) tt)))))
 
 -- ---- any line
 
 with_header-value : (next : ℕ) (s : SoFar) (words : List (List ℕ)) → IsSoFar next s → IfOk (with_header s words) (IsSoFar next)
 unfolding with_header
-with_header-value next s words known = by_version (ok_or (version_of words) Header)
+with_header-value next s words known = by_version (ok_or (read_version words) Header)
   where
     by_version : (r : Result Version Cause) → IfOk (r >>= λ version. Ok (record s { version = version })) (IsSoFar next)
     by_version (Ok version) = record {
@@ -262,8 +262,8 @@ unfolding after_words
 after_words-value s number text [] known fits = later number s known
 after_words-value s number text (first ∷ words) known fits =
     either (number + 1) (is_comment first) (Ok s) _ (later number s known)
-    (either (number + 1) (begins_with_digit first) (line_of number first words >>= λ line. with_line s line) (after_setting s text first words)
-    (line_added s number (line_of number first words) known (line_of-value number first words fits))
+    (either (number + 1) (begins_with_digit first) (read_line number first words >>= λ line. with_line s line) (after_setting s text first words)
+    (line_added s number (read_line number first words) known (line_of-value number first words fits))
     (after_setting-value (number + 1) s text first words (later number s known)))
 
 -- what the words of a line do
@@ -295,13 +295,13 @@ text_fits s line false true false known small = tt
 text_fits s line false true true known small = after_text-value s line.number line.text known (small refl)
 
 after_line-value : (s : SoFar) (line : RawLine) → IsSoFar line.number s → (is_too_long line ≡ false → line.number < 2 ^ 64)
-    → IfOk (after_line s line) (IsSoFar (line.number + 1))
-unfolding after_line text_within
+    → IfOk (after_trace_line s line) (IsSoFar (line.number + 1))
+unfolding after_trace_line text_within
 after_line-value s line known small = text_fits s line (is_too_long line) line.ended (is_utf8 line.text) known small
 
 -- so of a line that is good
 pub after_line-good : (before after : SoFar) (line : RawLine) (number : ℕ) → IsSoFar number before → line.number ≡ number → number < 2 ^ 64
-    → after_line before line ≡ Ok after → IsSoFar (number + 1) after
+    → after_trace_line before line ≡ Ok after → IsSoFar (number + 1) after
 after_line-good before after line number known numbered small good =
     subst (λ (n : ℕ). IsSoFar (n + 1) after) numbered
     (subst (λ (r : Result SoFar Cause). IfOk r (IsSoFar (line.number + 1))) good
@@ -319,17 +319,17 @@ abbrev IsRead : SoFar → Type 0
 IsRead s = (next : ℕ) × IsSoFar next s
 
 pieces-value : (s : SoFar) (number start : ℕ) (pieces : List (List ℕ)) → IsSoFar number s → number ≤ start + 1
-    → IfOk (after_lines s (lines_of_pieces number start pieces)) IsRead
+    → IfOk (after_trace_lines s (lines_of_pieces number start pieces)) IsRead
 pieces-value s number start [] known counted = (number, known)
 pieces-value s number start (text ∷ []) known counted =
     cond_both (nat_eq (length text) 0) [] (raw_line number start text false ∷ [])
-    (λ lines. IfOk (after_lines s lines) IsRead) (λ _. (number, known))
-    (λ _. read_fits (number + 1) IsRead number (after_line s (raw_line number start text false)) (λ next. Ok next)
+    (λ lines. IfOk (after_trace_lines s lines) IsRead) (λ _. (number, known))
+    (λ _. read_fits (number + 1) IsRead number (after_trace_line s (raw_line number start text false)) (λ next. Ok next)
     (after_line-value s (raw_line number start text false) known (small_number (raw_line number start text false) counted))
     (λ next h. (number + 1, h)))
 pieces-value s number start (text ∷ next ∷ pieces) known counted =
-    read_fits (number + 1) IsRead number (after_line s (raw_line number start text true))
-    (λ after. after_lines after (lines_of_pieces (number + 1) (start + length text + 1) (next ∷ pieces)))
+    read_fits (number + 1) IsRead number (after_trace_line s (raw_line number start text true))
+    (λ after. after_trace_lines after (lines_of_pieces (number + 1) (start + length text + 1) (next ∷ pieces)))
     (after_line-value s (raw_line number start text true) known (small_number (raw_line number start text true) counted))
     (λ after h. pieces-value after (number + 1) (start + length text + 1) (next ∷ pieces) h (omega arith))
 
@@ -382,7 +382,7 @@ config_of-value next s known =
       distinct = known.distinct;
     }
 
-whole-value : (r : Result SoFar BadLine) (trace : Trace) → IfOk r IsRead → whole r ≡ Ok trace → IsTraceValue trace
+whole-value : (r : Result SoFar BadLine) (trace : Trace) → IfOk r IsRead → whole_trace r ≡ Ok trace → IsTraceValue trace
 whole-value (Ok s) trace read e =
     let same : trace_so_far s ≡ trace = cc in
     let lines = read.1.lines in
@@ -402,6 +402,6 @@ whole-value (Err first) trace read e = absurd cc
 
 pub trace_of-value : (bytes : List ℕ) (trace : Trace) → trace_of bytes ≡ Ok trace → IsTraceValue trace
 unfolding trace_of
-trace_of-value bytes trace = cond_both (nat_eq (length bytes) 0) (Err (bad_line 1 Header)) (whole (lines_read bytes))
+trace_of-value bytes trace = cond_both (nat_eq (length bytes) 0) (Err (bad_line 1 Header)) (whole_trace (lines_read bytes))
     (λ r. r ≡ Ok trace → IsTraceValue trace)
     (λ _ e. absurd cc) (λ _ e. whole-value (lines_read bytes) trace (lines_read-value bytes) e)

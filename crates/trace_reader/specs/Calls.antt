@@ -10,15 +10,15 @@ use Rattle.text_lexer.specs.declared.error.Cause.TheVariants.{Word, Arity}
 use Rattle.trace_reader.specs.declared.calls.TheConstants.{WORDS_WITH_NEW}
 use Rattle.text_lexer.specs.Causes.{◌>>=◌}
 use Rattle.text_lexer.specs.Numbers.{number}
-use Rattle.trace_reader.specs.Fields.{mapped_descriptor, flags, prot}
+use Rattle.trace_reader.specs.Fields.{mapped_descriptor, flags, read_prot}
 use Rattle.text_lexer.specs.Words.{words_of}
 
 -- the mmap(2) of these words
-unfoldable pub mmap : List ℕ → List ℕ → List ℕ → List ℕ → List ℕ → List ℕ → Result Call Cause
-mmap addr len allowed options fd offset = do
+unfoldable pub read_mmap : List ℕ → List ℕ → List ℕ → List ℕ → List ℕ → List ℕ → Result Call Cause
+read_mmap addr len allowed options fd offset = do
   a ← number addr
   l ← number len
-  p ← prot allowed
+  p ← read_prot allowed
   f ← flags map_flags options
   d ← mapped_descriptor fd
   o ← number offset
@@ -26,32 +26,32 @@ mmap addr len allowed options fd offset = do
 
 -- `mmap ADDR LEN PROT FLAGS FD OFF`, from the words after `mmap`
 unfoldable pub mmap_of : List (List ℕ) → Result Call Cause
-mmap_of (addr ∷ len ∷ allowed ∷ options ∷ fd ∷ offset ∷ []) = mmap addr len allowed options fd offset
+mmap_of (addr ∷ len ∷ allowed ∷ options ∷ fd ∷ offset ∷ []) = read_mmap addr len allowed options fd offset
 mmap_of _ = Err Arity
 
 -- the munmap(2) of these words
-unfoldable pub munmap : List ℕ → List ℕ → Result Call Cause
-munmap addr len = do
+unfoldable pub read_munmap : List ℕ → List ℕ → Result Call Cause
+read_munmap addr len = do
   a ← number addr
   l ← number len
   Ok (Munmap a l)
 
 -- `munmap ADDR LEN`
 unfoldable pub munmap_of : List (List ℕ) → Result Call Cause
-munmap_of (addr ∷ len ∷ []) = munmap addr len
+munmap_of (addr ∷ len ∷ []) = read_munmap addr len
 munmap_of _ = Err Arity
 
 -- the mprotect(2) of these words
-unfoldable pub mprotect : List ℕ → List ℕ → List ℕ → Result Call Cause
-mprotect addr len allowed = do
+unfoldable pub read_mprotect : List ℕ → List ℕ → List ℕ → Result Call Cause
+read_mprotect addr len allowed = do
   a ← number addr
   l ← number len
-  p ← prot allowed
+  p ← read_prot allowed
   Ok (Mprotect a l p)
 
 -- `mprotect ADDR LEN PROT`
 unfoldable pub mprotect_of : List (List ℕ) → Result Call Cause
-mprotect_of (addr ∷ len ∷ allowed ∷ []) = mprotect addr len allowed
+mprotect_of (addr ∷ len ∷ allowed ∷ []) = read_mprotect addr len allowed
 mprotect_of _ = Err Arity
 
 -- a number, where its word is there
@@ -62,8 +62,8 @@ number_if (Some word) = do
   Ok (Some n)
 
 -- the mremap(2) of these words, where a NEW that is not there is 0
-unfoldable pub mremap : List ℕ → List ℕ → List ℕ → List ℕ → Option (List ℕ) → Result Call Cause
-mremap old old_len new_len options new = do
+unfoldable pub read_mremap : List ℕ → List ℕ → List ℕ → List ℕ → Option (List ℕ) → Result Call Cause
+read_mremap old old_len new_len options new = do
   o ← number old
   l ← number old_len
   n ← number new_len
@@ -73,8 +73,8 @@ mremap old old_len new_len options new = do
 
 -- `mremap OLD OLDLEN NEWLEN FLAGS`, or with a fifth word NEW
 unfoldable pub mremap_of : List (List ℕ) → Result Call Cause
-mremap_of (old ∷ old_len ∷ new_len ∷ options ∷ []) = mremap old old_len new_len options None
-mremap_of (old ∷ old_len ∷ new_len ∷ options ∷ new ∷ []) = mremap old old_len new_len options (Some new)
+mremap_of (old ∷ old_len ∷ new_len ∷ options ∷ []) = read_mremap old old_len new_len options None
+mremap_of (old ∷ old_len ∷ new_len ∷ options ∷ new ∷ []) = read_mremap old old_len new_len options (Some new)
 mremap_of _ = Err Arity
 
 -- `brk ADDR`
@@ -85,8 +85,8 @@ brk_of (addr ∷ []) = do
 brk_of _ = Err Arity
 
 -- the mseal(2) of these words, all of them numbers
-unfoldable pub mseal : List ℕ → List ℕ → List ℕ → Result Call Cause
-mseal addr len options = do
+unfoldable pub read_mseal : List ℕ → List ℕ → List ℕ → Result Call Cause
+read_mseal addr len options = do
   a ← number addr
   l ← number len
   f ← number options
@@ -94,7 +94,7 @@ mseal addr len options = do
 
 -- `mseal ADDR LEN FLAGS`
 unfoldable pub mseal_of : List (List ℕ) → Result Call Cause
-mseal_of (addr ∷ len ∷ options ∷ []) = mseal addr len options
+mseal_of (addr ∷ len ∷ options ∷ []) = read_mseal addr len options
 mseal_of _ = Err Arity
 
 -- the call of one of the four names, from the words after it
@@ -118,5 +118,5 @@ call_of_words (name ∷ words) = do
   if has_its_new call (name ∷ words) then Ok call else Err Arity
 
 -- the text of a call, as it stands after a thread
-unfoldable pub call_of : List ℕ → Result Call Cause
-call_of text = call_of_words (words_of text)
+unfoldable pub read_call : List ℕ → Result Call Cause
+read_call text = call_of_words (words_of text)

@@ -9,7 +9,7 @@ use Rattle.mm_types.specs.declared.config.TheConstants.{PAGE_SIZE, ADDRESS_LIMIT
 use Rattle.mm_types.specs.declared.flags.TheConstants.{PROT_READ, PROT_WRITE, PROT_EXEC}
 use Rattle.mm_types.specs.Flags.{has_flag}
 use Rattle.flag_table.specs.Reading.{reading}
-use Rattle.flag_table.specs.Tables.{Table, prot_flags}
+use Rattle.flag_table.specs.Tables.{FlagNames, prot_flags}
 use Rattle.flag_table.specs.declared.error.NameError.{NameError}
 use Rattle.text_lexer.specs.declared.error.Cause.{Cause}
 use Rattle.text_lexer.specs.declared.error.Cause.TheVariants.{Word, Number, Flag}
@@ -18,8 +18,8 @@ use Rattle.text_lexer.specs.Causes.{◌>>=◌}
 use Rattle.text_lexer.specs.Numbers.{decimal_of, digits_of, number, number_in}
 
 -- the thread that a word is: 1 to 20 decimal digits with a value of at most 63
-unfoldable pub thread_of : List ℕ → Option ℕ
-thread_of word = option_and_then (λ n. if nat_le n GREATEST_THREAD then Some n else None) (decimal_of word)
+unfoldable pub read_thread : List ℕ → Option ℕ
+read_thread word = option_and_then (λ n. if nat_le n GREATEST_THREAD then Some n else None) (decimal_of word)
 
 -- an address that may bound the memory: a multiple of the page size, from one page up to the address limit
 unfoldable pub bound : List ℕ → Result ℕ Cause
@@ -42,8 +42,8 @@ unfoldable pub device_part : ℕ → List ℕ → Result ℕ Cause
 device_part most word = ok_or (digits_of 16 most word) Number
 
 -- a device number: 1 to 3 digits before the first colon, and 1 to 5 digits after it
-unfoldable pub device : List ℕ → Result (ℕ × ℕ) Cause
-device word = do
+unfoldable pub read_device : List ℕ → Result (ℕ × ℕ) Cause
+read_device word = do
   major ← device_part MAJOR_DIGITS (before_first (λ c. nat_eq c (byte ":")) word)
   minor ← device_part MINOR_DIGITS (after_first (λ c. nat_eq c (byte ":")) word)
   Ok (major, minor)
@@ -66,7 +66,7 @@ or_flag (Ok bits) = Ok bits
 or_flag (Err fault) = Err Flag
 
 -- flags of a table
-unfoldable pub flags : Table → List ℕ → Result ℕ Cause
+unfoldable pub flags : FlagNames → List ℕ → Result ℕ Cause
 flags table word = or_flag (reading table word)
 
 -- the accesses that bits allow
@@ -75,7 +75,7 @@ prot_of_bits bits =
     record { read = has_flag bits PROT_READ; write = has_flag bits PROT_WRITE; exec = has_flag bits PROT_EXEC }
 
 -- a protection of mmap(2) and mprotect(2)
-unfoldable pub prot : List ℕ → Result Prot Cause
-prot word = do
+unfoldable pub read_prot : List ℕ → Result Prot Cause
+read_prot word = do
   bits ← flags prot_flags word
   Ok (prot_of_bits bits)

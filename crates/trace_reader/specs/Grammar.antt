@@ -11,7 +11,7 @@ use Rattle.text_lexer.specs.declared.error.BadLine.{BadLine}
 use Rattle.trace_reader.specs.declared.trace.Trace.{Trace}
 use Rattle.text_lexer.specs.BadLines.{bad_line, lines_leave}
 use Rattle.text_lexer.specs.Lines.{RawLine, raw_lines}
-use Rattle.trace_reader.specs.Lines.{SoFar, after_line}
+use Rattle.trace_reader.specs.Lines.{SoFar, after_trace_line}
 
 -- before the first line
 abbrev pub nothing : SoFar
@@ -29,12 +29,12 @@ nothing = record {
 }
 
 -- what the lines of a trace leave
-abbrev pub after_lines : SoFar → List RawLine → Result SoFar BadLine
-after_lines so_far lines = lines_leave after_line so_far lines
+abbrev pub after_trace_lines : SoFar → List RawLine → Result SoFar BadLine
+after_trace_lines so_far lines = lines_leave after_trace_line so_far lines
 
 -- what all the lines of bytes leave, or the first that is bad
 unfoldable pub lines_read : List ℕ → Result SoFar BadLine
-lines_read bytes = after_lines nothing (raw_lines bytes)
+lines_read bytes = after_trace_lines nothing (raw_lines bytes)
 
 -- the address at which user memory ends
 abbrev pub address_limit : Version → ℕ
@@ -57,10 +57,10 @@ abbrev pub trace_so_far : SoFar → Trace
 trace_so_far so_far = record { config = config_of so_far; lines = so_far.lines }
 
 -- the trace of lines that were all read
-abbrev pub whole : Result SoFar BadLine → Result Trace BadLine
-whole (Ok so_far) = Ok (trace_so_far so_far)
-whole (Err first) = Err first
+abbrev pub whole_trace : Result SoFar BadLine → Result Trace BadLine
+whole_trace (Ok so_far) = Ok (trace_so_far so_far)
+whole_trace (Err first) = Err first
 
 -- The trace that the bytes are, or the first bad line and its cause. Where there are no bytes, there is no header.
 unfoldable pub trace_of : List ℕ → Result Trace BadLine
-trace_of bytes = if nat_eq (length bytes) 0 then Err (bad_line 1 Header) else whole (lines_read bytes)
+trace_of bytes = if nat_eq (length bytes) 0 then Err (bad_line 1 Header) else whole_trace (lines_read bytes)

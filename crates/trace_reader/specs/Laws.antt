@@ -3,8 +3,8 @@ use Rattle.std.specs.Prelude.{ℕ, List}
 use Rattle.text_lexer.specs.declared.error.BadLine.{BadLine}
 use Rattle.text_lexer.specs.BadLines.{IsFirstBadBy}
 use Rattle.trace_reader.specs.Grammar.{nothing}
-use Rattle.trace_reader.specs.Lines.{after_line}
+use Rattle.trace_reader.specs.Lines.{after_trace_line}
 
 -- the first bad line of a trace
-abbrev pub IsFirstBad : List ℕ → BadLine → Type 0
-IsFirstBad bytes first = IsFirstBadBy after_line nothing bytes first
+abbrev pub IsFirstBadTraceLine : List ℕ → BadLine → Type 0
+IsFirstBadTraceLine bytes first = IsFirstBadBy after_trace_line nothing bytes first

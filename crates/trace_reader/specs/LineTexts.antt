@@ -14,7 +14,7 @@ use Rattle.mm_types.specs.declared.flags.TheConstants.{PROT_READ, PROT_WRITE, PR
 use Rattle.mm_types.specs.Flags.{has_flag}
 use Rattle.flag_table.specs.Tables.{HasRows, prot_flags, map_flags, mremap_flags}
 use Rattle.flag_table.specs.Printing.{printed}
-use Rattle.trace_reader.specs.Operations.{note, line_of}
+use Rattle.trace_reader.specs.Operations.{note, read_line}
 use Rattle.text_lexer.specs.Words.{words_of}
 use Rattle.text_lexer.specs.declared.error.Cause.{Cause}
 use Rattle.text_lexer.specs.declared.error.Cause.TheVariants.{Arity}
@@ -27,12 +27,12 @@ abbrev pub header : List ℕ
 header = codes "vmatrace 1\n"
 
 -- a number in hexadecimal: `0x` and its digits
-abbrev pub hexadecimal : ℕ → List ℕ
-hexadecimal n = codes "0x" ++ digits 16 false n
+abbrev pub hexadecimal_text : ℕ → List ℕ
+hexadecimal_text n = codes "0x" ++ digits 16 false n
 
 -- an address: its hexadecimal digits, or `0` for none
 unfoldable pub address_word : ℕ → List ℕ
-address_word address = if nat_eq address 0 then codes "0" else hexadecimal address
+address_word address = if nat_eq address 0 then codes "0" else hexadecimal_text address
 
 -- the bits of the accesses that a protection allows
 abbrev pub bits_of_prot : Prot → ℕ
@@ -94,17 +94,17 @@ abbrev pub line_text_by : (Op → List (List ℕ)) → TraceLine → List ℕ
 line_text_by write line = text_by write line ++ codes "\n"
 
 -- the text of a line
-unfoldable pub text_of : TraceLine → List ℕ
-text_of line = text_by op_words line
+unfoldable pub text_of_line : TraceLine → List ℕ
+text_of_line line = text_by op_words line
 
 -- the bytes of a line: its text, and a newline
 abbrev pub line_text : TraceLine → List ℕ
-line_text line = text_of line ++ codes "\n"
+line_text line = text_of_line line ++ codes "\n"
 
 -- the line of this number that words are
 abbrev pub line_of_words : ℕ → List (List ℕ) → Result TraceLine Cause
 line_of_words number [] = Err Arity
-line_of_words number (first ∷ words) = line_of number first words
+line_of_words number (first ∷ words) = read_line number first words
 
 -- the line of this number that a text is
 abbrev pub line_read : ℕ → List ℕ → Result TraceLine Cause

@@ -13,9 +13,9 @@ use Rattle.text_lexer.specs.declared.error.Cause.{Cause}
 use Rattle.text_lexer.specs.declared.error.Cause.TheVariants.{Header, Word, TooMany, FileTwice, After, Child}
 use Rattle.trace_reader.specs.declared.limits.TheConstants.{MOST_LINES, MOST_MAPS, MOST_NAMED, MOST_FORKS}
 use Rattle.text_lexer.specs.Causes.{◌>>=◌, unless}
-use Rattle.trace_reader.specs.Operations.{line_of}
+use Rattle.trace_reader.specs.Operations.{read_line}
 use Rattle.text_lexer.specs.Lines.{RawLine, text_of}
-use Rattle.trace_reader.specs.Settings.{limit_of, bound_of, file_of}
+use Rattle.trace_reader.specs.Settings.{limit_of, bound_of, read_file}
 use Rattle.trace_reader.specs.Values.{is_call_op, is_maps, child_of}
 use Rattle.text_lexer.specs.Words.{words_of, text_after_words, is_comment, begins_with_digit}
 
@@ -44,14 +44,14 @@ version_numbered word = if bytes_eq word (codes "1") then Some Narrow
     else (if bytes_eq word (codes "2") then Some Wide else None)
 
 -- the version of the header: `vmatrace 1` or `vmatrace 2`
-unfoldable pub version_of : List (List ℕ) → Option Version
-version_of (name ∷ number ∷ []) = if bytes_eq name (codes "vmatrace") then version_numbered number else None
-version_of _ = None
+unfoldable pub read_version : List (List ℕ) → Option Version
+read_version (name ∷ number ∷ []) = if bytes_eq name (codes "vmatrace") then version_numbered number else None
+read_version _ = None
 
 -- the first line
 unfoldable pub with_header : SoFar → List (List ℕ) → Result SoFar Cause
 with_header so_far words = do
-  version ← ok_or (version_of words) Header
+  version ← ok_or (read_version words) Header
   Ok (record so_far { version = version })
 
 -- whether a thread is a child so far
@@ -145,14 +145,14 @@ after_setting so_far text first words = if nat_lt 0 (length so_far.lines) then E
     else (if bytes_eq first (codes "top") then with_top so_far words
     else (if bytes_eq first (codes "min") then with_min so_far words
     else (if bytes_eq first (codes "heap") then with_heap so_far words
-    else (if bytes_eq first (codes "file") then (file_of words (text_after_words WORDS_BEFORE_PATH text) >>= λ file. with_file so_far file)
+    else (if bytes_eq first (codes "file") then (read_file words (text_after_words WORDS_BEFORE_PATH text) >>= λ file. with_file so_far file)
     else Err Word)))))
 
 -- a line below the header by its words: one without words, and a comment, is passed over
 unfoldable pub after_words : SoFar → ℕ → List ℕ → List (List ℕ) → Result SoFar Cause
 after_words so_far number text [] = Ok so_far
 after_words so_far number text (first ∷ words) = if is_comment first then Ok so_far
-    else (if begins_with_digit first then (line_of number first words >>= λ line. with_line so_far line)
+    else (if begins_with_digit first then (read_line number first words >>= λ line. with_line so_far line)
     else after_setting so_far text first words)
 
 -- the line of this number by its text and its words: line 1 is the header
@@ -160,7 +160,7 @@ abbrev pub after_text : SoFar → ℕ → List ℕ → List (List ℕ) → Resul
 after_text so_far number text words = if nat_eq number 1 then with_header so_far words else after_words so_far number text words
 
 -- a line: the tests of its bytes, and then those of its words
-unfoldable pub after_line : SoFar → RawLine → Result SoFar Cause
-after_line so_far line = do
+unfoldable pub after_trace_line : SoFar → RawLine → Result SoFar Cause
+after_trace_line so_far line = do
   text ← text_of line
   after_text so_far line.number text (words_of text)

@@ -11,49 +11,49 @@ use Rattle.text_lexer.specs.declared.error.Cause.TheVariants.{Number, Arity, Thr
 use Rattle.trace_reader.specs.Calls.{call_named, brk_of, mseal_of, has_its_new}
 use Rattle.text_lexer.specs.Causes.{◌>>=◌}
 use Rattle.text_lexer.specs.Numbers.{number, decimal_of}
-use Rattle.trace_reader.specs.Fields.{access, thread_of}
+use Rattle.trace_reader.specs.Fields.{access, read_thread}
 
 -- the page fault of these words: the page of the address, and the access
-unfoldable pub fault : List ℕ → List ℕ → Result Op Cause
-fault addr wanted = do
+unfoldable pub read_fault : List ℕ → List ℕ → Result Op Cause
+read_fault addr wanted = do
   a ← number addr
   w ← access wanted
   Ok (ops.Fault (record { 0 = a / PAGE_SIZE }) w)
 
 -- `fault ADDR A`
 unfoldable pub fault_of : List (List ℕ) → Result Op Cause
-fault_of (addr ∷ wanted ∷ []) = fault addr wanted
+fault_of (addr ∷ wanted ∷ []) = read_fault addr wanted
 fault_of _ = Err Arity
 
 -- `maps`
-unfoldable pub maps_of : List (List ℕ) → Result Op Cause
-maps_of [] = Ok ops.Maps
-maps_of _ = Err Arity
+unfoldable pub read_maps : List (List ℕ) → Result Op Cause
+read_maps [] = Ok ops.Maps
+read_maps _ = Err Arity
 
 -- `fork C`, where C is a thread
-unfoldable pub fork_of : List (List ℕ) → Result Op Cause
-fork_of (child ∷ []) = do
-  c ← ok_or (thread_of child) Number
+unfoldable pub read_fork : List (List ℕ) → Result Op Cause
+read_fork (child ∷ []) = do
+  c ← ok_or (read_thread child) Number
   Ok (ops.Fork c)
-fork_of _ = Err Arity
+read_fork _ = Err Arity
 
 -- the operation that a call is
-abbrev pub called : Result Call Cause → Result Op Cause
-called read = read >>= λ call. Ok (ops.Call call)
+abbrev pub read_op_of_call : Result Call Cause → Result Op Cause
+read_op_of_call read = read >>= λ call. Ok (ops.Call call)
 
 -- the operation of this name, from the words after it
 unfoldable pub op_named : List ℕ → List (List ℕ) → Result Op Cause
 op_named name words = if bytes_eq name (codes "fault") then fault_of words
-    else (if bytes_eq name (codes "maps") then maps_of words
-    else (if bytes_eq name (codes "fork") then fork_of words
-    else (if bytes_eq name (codes "brk") then called (brk_of words)
-    else (if bytes_eq name (codes "mseal") then called (mseal_of words)
-    else called (call_named name words)))))
+    else (if bytes_eq name (codes "maps") then read_maps words
+    else (if bytes_eq name (codes "fork") then read_fork words
+    else (if bytes_eq name (codes "brk") then read_op_of_call (brk_of words)
+    else (if bytes_eq name (codes "mseal") then read_op_of_call (mseal_of words)
+    else read_op_of_call (call_named name words)))))
 
 -- the words after a thread: the name of an operation, and the words of its form
-unfoldable pub op_of : List (List ℕ) → Result Op Cause
-op_of [] = Err Arity
-op_of (name ∷ words) = op_named name words
+unfoldable pub read_op : List (List ℕ) → Result Op Cause
+read_op [] = Err Arity
+read_op (name ∷ words) = op_named name words
 
 -- `after=`
 abbrev pub note : List ℕ
@@ -64,13 +64,13 @@ abbrev pub last_word : List (List ℕ) → List ℕ
 last_word words = get_or words (length words - 1) []
 
 -- LINE of `after=LINE`, where that is the last of the words after a thread and stands behind the name of the operation
-unfoldable pub note_of : List (List ℕ) → Option (List ℕ)
-note_of words = if nat_lt 1 (length words) && starts_with nat_eq (last_word words) note
+unfoldable pub read_note : List (List ℕ) → Option (List ℕ)
+read_note words = if nat_lt 1 (length words) && starts_with nat_eq (last_word words) note
     then Some (drop (length note) (last_word words)) else None
 
 -- the words without that one
 unfoldable pub without_note : List (List ℕ) → List (List ℕ)
-without_note words = if is_some (note_of words) then take (length words - 1) words else words
+without_note words = if is_some (read_note words) then take (length words - 1) words else words
 
 -- LINE: the number of a line, where its word is there
 unfoldable pub line_named : Option (List ℕ) → Result (Option ℕ) Cause
@@ -88,10 +88,10 @@ op_has_its_new (ops.Fork child) words = true
 
 -- The line of this number that these words are, by its tests in their order: the thread; the name of the operation; how many
 -- words there are; each of them, from the left; LINE; and NEW against the flags of an mremap(2).
-unfoldable pub line_of : ℕ → List ℕ → List (List ℕ) → Result TraceLine Cause
-line_of number first words = do
-  thread ← ok_or (thread_of first) Thread
-  op ← op_of (without_note words)
-  after ← line_named (note_of words)
+unfoldable pub read_line : ℕ → List ℕ → List (List ℕ) → Result TraceLine Cause
+read_line number first words = do
+  thread ← ok_or (read_thread first) Thread
+  op ← read_op (without_note words)
+  after ← line_named (read_note words)
   if op_has_its_new op (without_note words)
       then Ok (record { number = number; thread = thread; op = op; after = after }) else Err Arity

@@ -53,8 +53,8 @@ StaysIfBad (Err (calls.Bad cause)) before after = after ≡ before
 StaysIfBad (Err calls.NoMemory) before after = Unit {0}
 
 -- so much room is enough for the words of a line, where it has a text
-abbrev pub HasRoom : ℕ → RawLine → Type 0
-HasRoom room line = IfOk (text_of line) (λ text. length (words_of text) ≤ room)
+abbrev pub HasRoomForWords : ℕ → RawLine → Type 0
+HasRoomForWords room line = IfOk (text_of line) (λ text. length (words_of text) ≤ room)
 
 -- what was answered to lines, of which the first bad one has its number
 abbrev pub GivesLines : Result TraceBuilder ReadError → Result SoFar BadLine → Type 0

@@ -9,17 +9,17 @@ use Rattle.text_lexer.specs.declared.error.Cause.TheVariants.{Word, Arity}
 use Rattle.trace_reader.specs.declared.limits.TheConstants.{MOST_FILE_BYTES}
 use Rattle.text_lexer.specs.Causes.{◌>>=◌}
 use Rattle.text_lexer.specs.Numbers.{number, number_in}
-use Rattle.trace_reader.specs.Fields.{bound, descriptor, device, mode}
+use Rattle.trace_reader.specs.Fields.{bound, descriptor, read_device, mode}
 
 -- N, from the words after `areas`
-unfoldable pub areas_of : List (List ℕ) → Result ℕ Cause
-areas_of (count ∷ []) = number_in 1 MOST_AREAS count
-areas_of _ = Err Arity
+unfoldable pub read_area_limit : List (List ℕ) → Result ℕ Cause
+read_area_limit (count ∷ []) = number_in 1 MOST_AREAS count
+read_area_limit _ = Err Arity
 
 -- `limit areas N`, from the words after `limit`
 unfoldable pub limit_of : List (List ℕ) → Result ℕ Cause
 limit_of [] = Err Arity
-limit_of (what ∷ words) = if bytes_eq what (codes "areas") then areas_of words else Err Word
+limit_of (what ∷ words) = if bytes_eq what (codes "areas") then read_area_limit words else Err Word
 
 -- `top A`, `min A` or `heap A`, from the words after the first
 unfoldable pub bound_of : List (List ℕ) → Result ℕ Cause
@@ -38,7 +38,7 @@ file_fields fd open_for size halves inode = do
   f ← descriptor fd
   m ← mode open_for
   s ← number_in 0 MOST_FILE_BYTES size
-  d ← device halves
+  d ← read_device halves
   i ← number inode
   Ok (record { fd = f; read = m.0; write = m.1; size = s; major = d.0; minor = d.1; inode = i })
 
@@ -56,10 +56,10 @@ with_path fields path = record {
 }
 
 -- `file FD MODE SIZE MAJ:MIN INODE PATH`, from the words after `file`: all but the path, of which there is a word
-unfoldable pub fields_of : List (List ℕ) → Result FileFields Cause
-fields_of (fd ∷ open_for ∷ size ∷ halves ∷ inode ∷ first_of_path ∷ more) = file_fields fd open_for size halves inode
-fields_of _ = Err Arity
+unfoldable pub read_file_fields : List (List ℕ) → Result FileFields Cause
+read_file_fields (fd ∷ open_for ∷ size ∷ halves ∷ inode ∷ first_of_path ∷ more) = file_fields fd open_for size halves inode
+read_file_fields _ = Err Arity
 
 -- the file of these words, and of the text after INODE
-unfoldable pub file_of : List (List ℕ) → List ℕ → Result FileRow Cause
-file_of words path = fields_of words >>= λ fields. Ok (with_path fields path)
+unfoldable pub read_file : List (List ℕ) → List ℕ → Result FileRow Cause
+read_file words path = read_file_fields words >>= λ fields. Ok (with_path fields path)

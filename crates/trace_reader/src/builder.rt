@@ -3,9 +3,9 @@
 ghost use Rattle.std.specs.Prelude.{◌≡◌, IfErr, IfOk, map, is_some, nat_eq, vec_capacity};
 ghost use Rattle.std.specs.List.{list_any};
 ghost use Rattle.trace_reader.specs.Grammar.{nothing, address_limit, config_of, trace_so_far};
-ghost use Rattle.text_lexer.specs.Reading.{Gives, GivesTested, Reads, line_view};
-ghost use Rattle.trace_reader.specs.Reading.{HasRoom, StaysIfBad, config_named, so_far};
-ghost use Rattle.trace_reader.specs.Lines.{version_numbered, version_of, has_child, is_told, may_name, may_fork, names_rightly, forks_rightly, is_full, has_descriptor, with_header, with_line, with_limit, with_top, with_min, with_heap, with_file, after_setting, after_words, after_text, after_line};
+ghost use Rattle.text_lexer.specs.Reading.{Gives, GivesTested, ReadsAs, line_view};
+ghost use Rattle.trace_reader.specs.Reading.{HasRoomForWords, StaysIfBad, config_named, so_far};
+ghost use Rattle.trace_reader.specs.Lines.{version_numbered, read_version, has_child, is_told, may_name, may_fork, names_rightly, forks_rightly, is_full, has_descriptor, with_header, with_line, with_limit, with_top, with_min, with_heap, with_file, after_setting, after_words, after_text, after_trace_line};
 ghost use Rattle.trace_reader.specs.Settings.{with_path};
 ghost use Rattle.trace_reader.specs.Values.{AreNumbered, is_call_op, is_maps, child_of};
 
@@ -87,7 +87,7 @@ impl TraceBuilder {
     /// `CallError::Bad` comes where the line is bad behind those so far, with its cause, and then nothing changes: another may be
     /// added in its place. `CallError::NoMemory` comes where memory runs out, and what the builder holds then is not known. Where
     /// `words` has room for the words of the line, it comes only where the line is good.
-    #[tactic(auto, unfolding(crate::specs::Lines::after_line))]
+    #[tactic(auto, unfolding(crate::specs::Lines::after_trace_line))]
     pub fn add<'a>(
         &mut self,
         alloc: Global,
@@ -95,10 +95,10 @@ impl TraceBuilder {
         line: &RawLine<'a>,
     ) -> Result<(), CallError>
         requires { AreNumbered (so_far self.old).lines }
-        ensures added { Gives (λ _. so_far self.new) result (after_line (so_far self.old) (line_view line.now)) }
+        ensures added { Gives (λ _. so_far self.new) result (after_trace_line (so_far self.old) (line_view line.now)) }
         ensures kept { StaysIfBad result (so_far self.old) (so_far self.new) }
-        ensures tested { HasRoom (vec_capacity words.old) (line_view line.now)
-            → GivesTested (λ _. so_far self.new) result (after_line (so_far self.old) (line_view line.now)) }
+        ensures tested { HasRoomForWords (vec_capacity words.old) (line_view line.now)
+            → GivesTested (λ _. so_far self.new) result (after_trace_line (so_far self.old) (line_view line.now)) }
     {
         let text = text_of(line)?;
         set_words(words, text)?;
@@ -128,7 +128,7 @@ impl TraceBuilder {
     /// Adds the header.
     #[tactic(auto, unfolding(crate::specs::Lines::with_header))]
     fn set_version(&mut self, words: &[&str]) -> Result<(), Cause>
-        ensures added { Reads (λ _. so_far self.new) result (with_header (so_far self.old) (map (λ word. word.now) words.now)) }
+        ensures added { ReadsAs (λ _. so_far self.new) result (with_header (so_far self.old) (map (λ word. word.now) words.now)) }
         ensures kept { IfErr result (λ _. so_far self.new ≡ so_far self.old) }
     {
         match version_of(words) {
@@ -238,7 +238,7 @@ impl TraceBuilder {
     }
 
     /// Adds a line that stands before the first with a thread.
-    #[tactic(auto, unfolding(crate::specs::Lines::after_setting, crate::specs::Settings::file_of))]
+    #[tactic(auto, unfolding(crate::specs::Lines::after_setting, crate::specs::Settings::read_file))]
     fn add_setting(
         &mut self,
         alloc: Global,
@@ -269,7 +269,7 @@ impl TraceBuilder {
     /// Sets the most areas, once.
     #[tactic(auto, unfolding(crate::specs::Lines::with_limit))]
     fn set_limit(&mut self, words: &[&str]) -> Result<(), Cause>
-        ensures added { Reads (λ _. so_far self.new) result
+        ensures added { ReadsAs (λ _. so_far self.new) result
             (with_limit (so_far self.old) (map (λ word. word.now) words.now)) }
         ensures kept { IfErr result (λ _. so_far self.new ≡ so_far self.old) }
     {
@@ -283,7 +283,7 @@ impl TraceBuilder {
     /// Sets the address below which room is looked for, once.
     #[tactic(auto, unfolding(crate::specs::Lines::with_top))]
     fn set_top(&mut self, words: &[&str]) -> Result<(), Cause>
-        ensures added { Reads (λ _. so_far self.new) result (with_top (so_far self.old) (map (λ word. word.now) words.now)) }
+        ensures added { ReadsAs (λ _. so_far self.new) result (with_top (so_far self.old) (map (λ word. word.now) words.now)) }
         ensures kept { IfErr result (λ _. so_far self.new ≡ so_far self.old) }
     {
         if self.settings.top.is_some() {
@@ -296,7 +296,7 @@ impl TraceBuilder {
     /// Sets the lowest address that may be mapped, once.
     #[tactic(auto, unfolding(crate::specs::Lines::with_min))]
     fn set_min(&mut self, words: &[&str]) -> Result<(), Cause>
-        ensures added { Reads (λ _. so_far self.new) result (with_min (so_far self.old) (map (λ word. word.now) words.now)) }
+        ensures added { ReadsAs (λ _. so_far self.new) result (with_min (so_far self.old) (map (λ word. word.now) words.now)) }
         ensures kept { IfErr result (λ _. so_far self.new ≡ so_far self.old) }
     {
         if self.settings.min.is_some() {
@@ -309,7 +309,7 @@ impl TraceBuilder {
     /// Sets the address at which the heap begins, once.
     #[tactic(auto, unfolding(crate::specs::Lines::with_heap))]
     fn set_heap(&mut self, words: &[&str]) -> Result<(), Cause>
-        ensures added { Reads (λ _. so_far self.new) result (with_heap (so_far self.old) (map (λ word. word.now) words.now)) }
+        ensures added { ReadsAs (λ _. so_far self.new) result (with_heap (so_far self.old) (map (λ word. word.now) words.now)) }
         ensures kept { IfErr result (λ _. so_far self.new ≡ so_far self.old) }
     {
         if self.settings.heap.is_some() {
@@ -383,9 +383,9 @@ fn config_named(settings: Settings, files: Files) -> Config
 }
 
 /// The version that the words of the first line name: `vmatrace 1` or `vmatrace 2`.
-#[tactic(auto, unfolding(crate::specs::Lines::version_of))]
+#[tactic(auto, unfolding(crate::specs::Lines::read_version))]
 fn version_of(words: &[&str]) -> Option<Version>
-    ensures { result ≡ version_of (map (λ word. word.now) words.now) }
+    ensures { result ≡ read_version (map (λ word. word.now) words.now) }
 {
     match words {
         [name, number] if *name == "vmatrace" => version_numbered(number),

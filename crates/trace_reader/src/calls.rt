@@ -1,8 +1,8 @@
 //! The calls that the words of a line ask for.
 
 ghost use Rattle.std.specs.Prelude.{◌≡◌, map, option_copied};
-ghost use Rattle.trace_reader.specs.Calls.{mmap, mmap_of, munmap, munmap_of, mprotect, mprotect_of, number_if, mremap, mremap_of, brk_of, mseal, mseal_of, call_named, has_its_new, call_of_words, call_of};
-ghost use Rattle.text_lexer.specs.Reading.{Gives, Reads};
+ghost use Rattle.trace_reader.specs.Calls.{read_mmap, mmap_of, read_munmap, munmap_of, read_mprotect, mprotect_of, number_if, read_mremap, mremap_of, brk_of, read_mseal, mseal_of, call_named, has_its_new, call_of_words, read_call};
+ghost use Rattle.text_lexer.specs.Reading.{Gives, ReadsAs};
 
 use crate::fields::{flags, mapped_descriptor, prot};
 use flag_table::{map_table, mremap_table};
@@ -14,7 +14,7 @@ use text_lexer::{CallError, Cause, is_name, number, words_of};
 const WORDS_WITH_NEW: usize = 6;
 
 /// The mmap(2) of these words.
-#[tactic(auto, unfolding(crate::specs::Calls::mmap))]
+#[tactic(auto, unfolding(crate::specs::Calls::read_mmap))]
 fn mmap(
     addr: &str,
     len: &str,
@@ -23,7 +23,7 @@ fn mmap(
     fd: &str,
     offset: &str,
 ) -> Result<Call, Cause>
-    ensures { Reads (λ call. call) result (mmap addr.now len.now allowed.now options.now fd.now offset.now) }
+    ensures { ReadsAs (λ call. call) result (read_mmap addr.now len.now allowed.now options.now fd.now offset.now) }
 {
     Ok(Call::Mmap(MmapArgs {
         addr: number(addr)?,
@@ -38,7 +38,7 @@ fn mmap(
 /// `mmap ADDR LEN PROT FLAGS FD OFF`, from the words after the first.
 #[tactic(auto, unfolding(crate::specs::Calls::mmap_of))]
 fn mmap_of(words: &[&str]) -> Result<Call, Cause>
-    ensures { Reads (λ call. call) result (mmap_of (map (λ word. word.now) words.now)) }
+    ensures { ReadsAs (λ call. call) result (mmap_of (map (λ word. word.now) words.now)) }
 {
     match words {
         [addr, len, allowed, options, fd, offset] => mmap(addr, len, allowed, options, fd, offset),
@@ -47,9 +47,9 @@ fn mmap_of(words: &[&str]) -> Result<Call, Cause>
 }
 
 /// The munmap(2) of these words.
-#[tactic(auto, unfolding(crate::specs::Calls::munmap))]
+#[tactic(auto, unfolding(crate::specs::Calls::read_munmap))]
 fn munmap(addr: &str, len: &str) -> Result<Call, Cause>
-    ensures { Reads (λ call. call) result (munmap addr.now len.now) }
+    ensures { ReadsAs (λ call. call) result (read_munmap addr.now len.now) }
 {
     Ok(Call::Munmap {
         addr: number(addr)?,
@@ -60,7 +60,7 @@ fn munmap(addr: &str, len: &str) -> Result<Call, Cause>
 /// `munmap ADDR LEN`.
 #[tactic(auto, unfolding(crate::specs::Calls::munmap_of))]
 fn munmap_of(words: &[&str]) -> Result<Call, Cause>
-    ensures { Reads (λ call. call) result (munmap_of (map (λ word. word.now) words.now)) }
+    ensures { ReadsAs (λ call. call) result (munmap_of (map (λ word. word.now) words.now)) }
 {
     match words {
         [addr, len] => munmap(addr, len),
@@ -69,9 +69,9 @@ fn munmap_of(words: &[&str]) -> Result<Call, Cause>
 }
 
 /// The mprotect(2) of these words.
-#[tactic(auto, unfolding(crate::specs::Calls::mprotect))]
+#[tactic(auto, unfolding(crate::specs::Calls::read_mprotect))]
 fn mprotect(addr: &str, len: &str, allowed: &str) -> Result<Call, Cause>
-    ensures { Reads (λ call. call) result (mprotect addr.now len.now allowed.now) }
+    ensures { ReadsAs (λ call. call) result (read_mprotect addr.now len.now allowed.now) }
 {
     Ok(Call::Mprotect {
         addr: number(addr)?,
@@ -83,7 +83,7 @@ fn mprotect(addr: &str, len: &str, allowed: &str) -> Result<Call, Cause>
 /// `mprotect ADDR LEN PROT`.
 #[tactic(auto, unfolding(crate::specs::Calls::mprotect_of))]
 fn mprotect_of(words: &[&str]) -> Result<Call, Cause>
-    ensures { Reads (λ call. call) result (mprotect_of (map (λ word. word.now) words.now)) }
+    ensures { ReadsAs (λ call. call) result (mprotect_of (map (λ word. word.now) words.now)) }
 {
     match words {
         [addr, len, allowed] => mprotect(addr, len, allowed),
@@ -94,7 +94,7 @@ fn mprotect_of(words: &[&str]) -> Result<Call, Cause>
 /// A number, where its word is there.
 #[tactic(auto, unfolding(crate::specs::Calls::number_if))]
 fn number_if(word: Option<&str>) -> Result<Option<u64>, Cause>
-    ensures { Reads (λ n. n) result (number_if (option_copied word.entry)) }
+    ensures { ReadsAs (λ n. n) result (number_if (option_copied word.entry)) }
 {
     match word {
         None => Ok(None),
@@ -103,7 +103,7 @@ fn number_if(word: Option<&str>) -> Result<Option<u64>, Cause>
 }
 
 /// The mremap(2) of these words, where a NEW that is not there is 0.
-#[tactic(auto, unfolding(crate::specs::Calls::mremap))]
+#[tactic(auto, unfolding(crate::specs::Calls::read_mremap))]
 fn mremap(
     old: &str,
     old_len: &str,
@@ -111,7 +111,7 @@ fn mremap(
     options: &str,
     new: Option<&str>,
 ) -> Result<Call, Cause>
-    ensures { Reads (λ call. call) result (mremap old.now old_len.now new_len.now options.now (option_copied new.entry)) }
+    ensures { ReadsAs (λ call. call) result (read_mremap old.now old_len.now new_len.now options.now (option_copied new.entry)) }
 {
     let old = number(old)?;
     let old_len = number(old_len)?;
@@ -130,7 +130,7 @@ fn mremap(
 /// `mremap OLD OLDLEN NEWLEN FLAGS`, or with a fifth word NEW.
 #[tactic(auto, unfolding(crate::specs::Calls::mremap_of))]
 fn mremap_of(words: &[&str]) -> Result<Call, Cause>
-    ensures { Reads (λ call. call) result (mremap_of (map (λ word. word.now) words.now)) }
+    ensures { ReadsAs (λ call. call) result (mremap_of (map (λ word. word.now) words.now)) }
 {
     match words {
         [old, old_len, new_len, options] => mremap(old, old_len, new_len, options, None),
@@ -142,7 +142,7 @@ fn mremap_of(words: &[&str]) -> Result<Call, Cause>
 /// `brk ADDR` of brk(2).
 #[tactic(auto, unfolding(crate::specs::Calls::brk_of))]
 pub(crate) fn brk_of(words: &[&str]) -> Result<Call, Cause>
-    ensures { Reads (λ call. call) result (brk_of (map (λ word. word.now) words.now)) }
+    ensures { ReadsAs (λ call. call) result (brk_of (map (λ word. word.now) words.now)) }
 {
     let [addr] = words else {
         return Err(Cause::Arity);
@@ -153,9 +153,9 @@ pub(crate) fn brk_of(words: &[&str]) -> Result<Call, Cause>
 }
 
 /// The mseal(2) of these words, all of them numbers.
-#[tactic(auto, unfolding(crate::specs::Calls::mseal))]
+#[tactic(auto, unfolding(crate::specs::Calls::read_mseal))]
 fn mseal(addr: &str, len: &str, options: &str) -> Result<Call, Cause>
-    ensures { Reads (λ call. call) result (mseal addr.now len.now options.now) }
+    ensures { ReadsAs (λ call. call) result (read_mseal addr.now len.now options.now) }
 {
     Ok(Call::Mseal {
         addr: number(addr)?,
@@ -167,7 +167,7 @@ fn mseal(addr: &str, len: &str, options: &str) -> Result<Call, Cause>
 /// `mseal ADDR LEN FLAGS`.
 #[tactic(auto, unfolding(crate::specs::Calls::mseal_of))]
 pub(crate) fn mseal_of(words: &[&str]) -> Result<Call, Cause>
-    ensures { Reads (λ call. call) result (mseal_of (map (λ word. word.now) words.now)) }
+    ensures { ReadsAs (λ call. call) result (mseal_of (map (λ word. word.now) words.now)) }
 {
     match words {
         [addr, len, options] => mseal(addr, len, options),
@@ -178,7 +178,7 @@ pub(crate) fn mseal_of(words: &[&str]) -> Result<Call, Cause>
 /// The call of one of the four names, from the words after it.
 #[tactic(auto, unfolding(crate::specs::Calls::call_named))]
 pub(crate) fn call_named(name: &str, words: &[&str]) -> Result<Call, Cause>
-    ensures { Reads (λ call. call) result (call_named name.now (map (λ word. word.now) words.now)) }
+    ensures { ReadsAs (λ call. call) result (call_named name.now (map (λ word. word.now) words.now)) }
 {
     if is_name(name, "mmap") {
         mmap_of(words)
@@ -209,7 +209,7 @@ pub(crate) fn has_its_new(call: &Call, words: &[&str]) -> bool
 /// The words of a call: its name, and the words of its form.
 #[tactic(auto, unfolding(crate::specs::Calls::call_of_words))]
 fn call_of_words(words: &[&str]) -> Result<Call, Cause>
-    ensures { Reads (λ call. call) result (call_of_words (map (λ word. word.now) words.now)) }
+    ensures { ReadsAs (λ call. call) result (call_of_words (map (λ word. word.now) words.now)) }
 {
     let [name, rest @ ..] = words else {
         return Err(Cause::Arity);
@@ -224,9 +224,9 @@ fn call_of_words(words: &[&str]) -> Result<Call, Cause>
 
 /// The call that a text asks for, one of mmap(2), munmap(2), mprotect(2) and mremap(2), as it stands after the thread of a trace
 /// line: `munmap 0x1000 4096`. Any other name is `Cause::Word`. Only the list of its words takes memory.
-#[tactic(auto, unfolding(crate::specs::Calls::call_of))]
+#[tactic(auto, unfolding(crate::specs::Calls::read_call))]
 pub fn call_of(alloc: Global, text: &str) -> Result<Call, CallError>
-    ensures { Gives (λ call. call) result (call_of text.now) }
+    ensures { Gives (λ call. call) result (read_call text.now) }
 {
     let words = words_of(alloc, text)?;
     let call = call_of_words(words.as_slice())?;

@@ -3,7 +3,7 @@
 ghost use Rattle.std.specs.Prelude.{◌≡◌, ◌≤◌, ◌⊎◌, ◌+◌, ◌-◌, ◌^◌, ℕ, List, [], length, take, Ok, Err};
 ghost use Rattle.text_lexer.specs.BadLines.{bad_line};
 ghost use Rattle.trace_reader.specs.Grammar.{trace_of};
-ghost use Rattle.trace_reader.specs.Laws.{IsFirstBad};
+ghost use Rattle.trace_reader.specs.Laws.{IsFirstBadTraceLine};
 ghost use Rattle.text_lexer.specs.Lines.{input_limit};
 ghost use Rattle.trace_reader.specs.Values.{IsTraceValue};
 ghost use Rattle.text_lexer.specs.declared.error.Cause.TheVariants.{Header};
@@ -16,7 +16,7 @@ ghost use Rattle.trace_reader.specs.declared.trace.Trace.{Trace};
 /// The line that is named in place of a trace is the first bad one, or line 1 where there are no bytes.
 pub fn first_bad_line()
     ensures { (bytes : List ℕ) (first : BadLine) → trace_of bytes ≡ Err first
-        → ((bytes ≡ []) × (first ≡ bad_line 1 Header)) ⊎ IsFirstBad bytes first }
+        → ((bytes ≡ []) × (first ≡ bad_line 1 Header)) ⊎ IsFirstBadTraceLine bytes first }
 {}
 
 /// One byte more than the limit settles which trace bytes are, or which line is bad first.

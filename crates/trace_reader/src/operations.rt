@@ -1,8 +1,8 @@
 //! What a line with a thread asks for, by its tests in their order.
 
 ghost use Rattle.std.specs.Prelude.{◌≡◌, map, option_copied};
-ghost use Rattle.trace_reader.specs.Operations.{fault, fault_of, maps_of, fork_of, op_named, op_of, note_of, without_note, line_named, op_has_its_new, line_of};
-ghost use Rattle.text_lexer.specs.Reading.{Reads};
+ghost use Rattle.trace_reader.specs.Operations.{read_fault, fault_of, read_maps, read_fork, op_named, read_op, read_note, without_note, line_named, op_has_its_new, read_line};
+ghost use Rattle.text_lexer.specs.Reading.{ReadsAs};
 
 use crate::calls::{brk_of, call_named, has_its_new, mseal_of};
 use crate::fields::{access, thread_of};
@@ -15,9 +15,9 @@ const NOTE: &str = "after=";
 
 /// The line of this number that these words are: `first`, and the words after it. The tests, in their order: the thread; the name
 /// of the operation; how many words there are; each of them, from the left; LINE; and NEW against the flags of an mremap(2).
-#[tactic(auto, unfolding(crate::specs::Operations::line_of))]
+#[tactic(auto, unfolding(crate::specs::Operations::read_line))]
 pub(crate) fn line_of(number: u64, first: &str, words: &[&str]) -> Result<TraceLine, Cause>
-    ensures { Reads (λ line. line) result (line_of number first.now (map (λ word. word.now) words.now)) }
+    ensures { ReadsAs (λ line. line) result (read_line number first.now (map (λ word. word.now) words.now)) }
 {
     let Some(thread) = thread_of(first) else {
         return Err(Cause::Thread);
@@ -37,9 +37,9 @@ pub(crate) fn line_of(number: u64, first: &str, words: &[&str]) -> Result<TraceL
 }
 
 /// LINE of `after=LINE`, where that is the last of the words after a thread and stands behind the name of the operation.
-#[tactic(auto, unfolding(crate::specs::Operations::note_of))]
+#[tactic(auto, unfolding(crate::specs::Operations::read_note))]
 fn note_of<'a>(words: &[&'a str]) -> Option<&'a str>
-    ensures { option_copied result ≡ note_of (map (λ word. word.now) words.now) }
+    ensures { option_copied result ≡ read_note (map (λ word. word.now) words.now) }
 {
     match words {
         [_, .., last] => last.strip_prefix(NOTE),
@@ -61,7 +61,7 @@ fn without_note<'a, 'b>(words: &'b [&'a str]) -> &'b [&'a str]
 /// LINE: the number of a line, where its word is there.
 #[tactic(auto, unfolding(crate::specs::Operations::line_named))]
 fn line_named(word: Option<&str>) -> Result<Option<u64>, Cause>
-    ensures { Reads (λ line. line) result (line_named (option_copied word.entry)) }
+    ensures { ReadsAs (λ line. line) result (line_named (option_copied word.entry)) }
 {
     let Some(word) = word else {
         return Ok(None);
@@ -83,9 +83,9 @@ fn op_has_its_new(op: &Op, words: &[&str]) -> bool
 }
 
 /// What the words after a thread ask for: the name of an operation, and the words of its form.
-#[tactic(auto, unfolding(crate::specs::Operations::op_of))]
+#[tactic(auto, unfolding(crate::specs::Operations::read_op))]
 fn op_of(words: &[&str]) -> Result<Op, Cause>
-    ensures { Reads (λ op. op) result (op_of (map (λ word. word.now) words.now)) }
+    ensures { ReadsAs (λ op. op) result (read_op (map (λ word. word.now) words.now)) }
 {
     let [name, rest @ ..] = words else {
         return Err(Cause::Arity);
@@ -96,7 +96,7 @@ fn op_of(words: &[&str]) -> Result<Op, Cause>
 /// The operation of this name, from the words after it.
 #[tactic(auto, unfolding(crate::specs::Operations::op_named))]
 fn op_named(name: &str, words: &[&str]) -> Result<Op, Cause>
-    ensures { Reads (λ op. op) result (op_named name.now (map (λ word. word.now) words.now)) }
+    ensures { ReadsAs (λ op. op) result (op_named name.now (map (λ word. word.now) words.now)) }
 {
     if is_name(name, "fault") {
         fault_of(words)
@@ -114,9 +114,9 @@ fn op_named(name: &str, words: &[&str]) -> Result<Op, Cause>
 }
 
 /// The page fault of these words: an access to the page of the address.
-#[tactic(auto, unfolding(crate::specs::Operations::fault))]
+#[tactic(auto, unfolding(crate::specs::Operations::read_fault))]
 fn fault(addr: &str, wanted: &str) -> Result<Op, Cause>
-    ensures { Reads (λ op. op) result (fault addr.now wanted.now) }
+    ensures { ReadsAs (λ op. op) result (read_fault addr.now wanted.now) }
 {
     Ok(Op::Fault {
         page: Page(number(addr)? / PAGE_SIZE),
@@ -127,7 +127,7 @@ fn fault(addr: &str, wanted: &str) -> Result<Op, Cause>
 /// `fault ADDR A`.
 #[tactic(auto, unfolding(crate::specs::Operations::fault_of))]
 fn fault_of(words: &[&str]) -> Result<Op, Cause>
-    ensures { Reads (λ op. op) result (fault_of (map (λ word. word.now) words.now)) }
+    ensures { ReadsAs (λ op. op) result (fault_of (map (λ word. word.now) words.now)) }
 {
     match words {
         [addr, wanted] => fault(addr, wanted),
@@ -136,9 +136,9 @@ fn fault_of(words: &[&str]) -> Result<Op, Cause>
 }
 
 /// `maps`: a read of the list of areas.
-#[tactic(auto, unfolding(crate::specs::Operations::maps_of))]
+#[tactic(auto, unfolding(crate::specs::Operations::read_maps))]
 fn maps_of(words: &[&str]) -> Result<Op, Cause>
-    ensures { Reads (λ op. op) result (maps_of (map (λ word. word.now) words.now)) }
+    ensures { ReadsAs (λ op. op) result (read_maps (map (λ word. word.now) words.now)) }
 {
     if words.is_empty() {
         Ok(Op::Maps)
@@ -148,9 +148,9 @@ fn maps_of(words: &[&str]) -> Result<Op, Cause>
 }
 
 /// `fork C`: a child space, whose one thread is C.
-#[tactic(auto, unfolding(crate::specs::Operations::fork_of))]
+#[tactic(auto, unfolding(crate::specs::Operations::read_fork))]
 fn fork_of(words: &[&str]) -> Result<Op, Cause>
-    ensures { Reads (λ op. op) result (fork_of (map (λ word. word.now) words.now)) }
+    ensures { ReadsAs (λ op. op) result (read_fork (map (λ word. word.now) words.now)) }
 {
     let [child] = words else {
         return Err(Cause::Arity);

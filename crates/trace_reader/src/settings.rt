@@ -1,8 +1,8 @@
 //! The lines before the first one with a thread: `limit`, `top`, `min`, `heap` and `file`.
 
 ghost use Rattle.std.specs.Prelude.{◌≡◌, IfOk, map};
-ghost use Rattle.trace_reader.specs.Settings.{areas_of, limit_of, bound_of, unescaped, file_fields, fields_of, with_path};
-ghost use Rattle.text_lexer.specs.Reading.{Reads};
+ghost use Rattle.trace_reader.specs.Settings.{read_area_limit, limit_of, bound_of, unescaped, file_fields, read_file_fields, with_path};
+ghost use Rattle.text_lexer.specs.Reading.{ReadsAs};
 
 use crate::fields::{bound, descriptor, device, mode};
 use crate::limits::MOST_FILE_BYTES;
@@ -11,9 +11,9 @@ use std::alloc::{AllocError, Global};
 use text_lexer::{Cause, number, number_in};
 
 /// The most areas, from the words after `limit areas`.
-#[tactic(auto, unfolding(crate::specs::Settings::areas_of))]
+#[tactic(auto, unfolding(crate::specs::Settings::read_area_limit))]
 fn areas_of(words: &[&str]) -> Result<u32, Cause>
-    ensures { Reads (λ areas. areas) result (areas_of (map (λ word. word.now) words.now)) }
+    ensures { ReadsAs (λ areas. areas) result (read_area_limit (map (λ word. word.now) words.now)) }
 {
     let [count] = words else {
         return Err(Cause::Arity);
@@ -25,7 +25,7 @@ fn areas_of(words: &[&str]) -> Result<u32, Cause>
 /// `limit areas N`, from the words after the first.
 #[tactic(auto, unfolding(crate::specs::Settings::limit_of))]
 pub(crate) fn limit_of(words: &[&str]) -> Result<u32, Cause>
-    ensures { Reads (λ areas. areas) result (limit_of (map (λ word. word.now) words.now)) }
+    ensures { ReadsAs (λ areas. areas) result (limit_of (map (λ word. word.now) words.now)) }
 {
     let [what, rest @ ..] = words else {
         return Err(Cause::Arity);
@@ -39,7 +39,7 @@ pub(crate) fn limit_of(words: &[&str]) -> Result<u32, Cause>
 /// `top A`, `min A` or `heap A`, an address in bytes, from the words after the first.
 #[tactic(auto, unfolding(crate::specs::Settings::bound_of))]
 pub(crate) fn bound_of(words: &[&str]) -> Result<u64, Cause>
-    ensures { Reads (λ address. address) result (bound_of (map (λ word. word.now) words.now)) }
+    ensures { ReadsAs (λ address. address) result (bound_of (map (λ word. word.now) words.now)) }
 {
     match words {
         [address] => bound(address),
@@ -83,7 +83,7 @@ fn file_fields(
     halves: &str,
     inode: &str,
 ) -> Result<FileFields, Cause>
-    ensures { Reads (λ fields. fields) result (file_fields fd.now open_for.now size.now halves.now inode.now) }
+    ensures { ReadsAs (λ fields. fields) result (file_fields fd.now open_for.now size.now halves.now inode.now) }
 {
     let fd = descriptor(fd)?;
     let (read, write) = mode(open_for)?;
@@ -102,9 +102,9 @@ fn file_fields(
 }
 
 /// `file FD MODE SIZE MAJ:MIN INODE PATH`, from the words after the first: all but the path, of which there is a word.
-#[tactic(auto, unfolding(crate::specs::Settings::fields_of))]
+#[tactic(auto, unfolding(crate::specs::Settings::read_file_fields))]
 pub(crate) fn fields_of(words: &[&str]) -> Result<FileFields, Cause>
-    ensures { Reads (λ fields. fields) result (fields_of (map (λ word. word.now) words.now)) }
+    ensures { ReadsAs (λ fields. fields) result (read_file_fields (map (λ word. word.now) words.now)) }
 {
     match words {
         [fd, open_for, size, halves, inode, _, ..] => file_fields(

@@ -5,38 +5,38 @@ use Rattle.std.specs.List.{flat_map}
 use Rattle.std.proofs.lemmas.Bool.Decides.{nat_tests}
 use Rattle.std.proofs.lemmas.Grind.{flat_map-append}
 use Rattle.maple_node.specs.Trees.{Pair, pair_of}
-use Rattle.maple_node.specs.Pairs.{lower_part, upper_part, overwritten}
+use Rattle.maple_node.specs.Pairs.{pair_below, pair_from, overwritten}
 use Rattle.area_tree.specs.SpanTrees.{SpanView}
 use Rattle.tree_tests.specs.Rows.{row_pairs, IsRow}
 
 -- all pairs lie below the page of the next
 one_lower : (count page : ℕ) → 16 + 2 * count + 1 ≤ page → (let pair : Pair = record { lo = 16 + 2 * count; hi = 16 + 2 * count + 1; slot = count } in
-    lower_part page pair ≡ pair ∷ [])
+    pair_below page pair ≡ pair ∷ [])
 one_lower count page below =
     let test : nat_lt (16 + 2 * count) page ≡ true = grind (arith, nat_tests) in
     let whole : min (16 + 2 * count + 1) page ≡ 16 + 2 * count + 1 = omega arith in
     rw (test, whole) refl
 
 one_upper : (count page : ℕ) → 16 + 2 * count + 1 ≤ page
-    → upper_part page (record { lo = 16 + 2 * count; hi = 16 + 2 * count + 1; slot = count }) ≡ []
+    → pair_from page (record { lo = 16 + 2 * count; hi = 16 + 2 * count + 1; slot = count }) ≡ []
 one_upper count page below =
     let test : nat_lt page (16 + 2 * count + 1) ≡ false = grind (arith, nat_tests) in
     rw test refl
 
-all_lower : (count page : ℕ) → 16 + 2 * count ≤ page + 1 → flat_map (lower_part page) (row_pairs count) ≡ row_pairs count
+all_lower : (count page : ℕ) → 16 + 2 * count ≤ page + 1 → flat_map (pair_below page) (row_pairs count) ≡ row_pairs count
 all_lower zero page below = refl
 all_lower (suc count) page below =
     let pair : Pair = record { lo = 16 + 2 * count; hi = 16 + 2 * count + 1; slot = count } in
-    flat_map-append (lower_part page) (row_pairs count) (pair ∷ [])
-    ∙ ap (λ (ps : List Pair). ps ++ (lower_part page pair ++ [])) (all_lower count page (omega arith))
+    flat_map-append (pair_below page) (row_pairs count) (pair ∷ [])
+    ∙ ap (λ (ps : List Pair). ps ++ (pair_below page pair ++ [])) (all_lower count page (omega arith))
     ∙ ap (λ (ps : List Pair). row_pairs count ++ (ps ++ [])) (one_lower count page (omega arith))
 
-all_upper : (count page : ℕ) → 16 + 2 * count ≤ page + 1 → flat_map (upper_part page) (row_pairs count) ≡ []
+all_upper : (count page : ℕ) → 16 + 2 * count ≤ page + 1 → flat_map (pair_from page) (row_pairs count) ≡ []
 all_upper zero page below = refl
 all_upper (suc count) page below =
     let pair : Pair = record { lo = 16 + 2 * count; hi = 16 + 2 * count + 1; slot = count } in
-    flat_map-append (upper_part page) (row_pairs count) (pair ∷ [])
-    ∙ ap (λ (ps : List Pair). ps ++ (upper_part page pair ++ [])) (all_upper count page (omega arith))
+    flat_map-append (pair_from page) (row_pairs count) (pair ∷ [])
+    ∙ ap (λ (ps : List Pair). ps ++ (pair_from page pair ++ [])) (all_upper count page (omega arith))
     ∙ ap (λ (ps : List Pair). ps ++ []) (one_upper count page (omega arith))
 
 row_more : (count : ℕ) → overwritten (16 + 2 * count) (16 + 2 * count + 1) (count + 1) (row_pairs count) ≡ row_pairs (count + 1)
@@ -48,7 +48,7 @@ row_more count =
     let less : (count + 1) - 1 ≡ count = omega arith in
     let entry = pair_of lo (record { end = hi; word = count + 1; gap = 0 }) in
     let is : entry ≡ pair ∷ [] = rw (test, less) refl in
-    ap (λ (ps : List Pair). ps ++ (entry ++ flat_map (upper_part hi) (row_pairs count))) (all_lower count lo (omega arith))
+    ap (λ (ps : List Pair). ps ++ (entry ++ flat_map (pair_from hi) (row_pairs count))) (all_lower count lo (omega arith))
     ∙ ap (λ (ps : List Pair). row_pairs count ++ (entry ++ ps)) (all_upper count hi (omega arith))
     ∙ ap (λ (ps : List Pair). row_pairs count ++ (ps ++ [])) is
     ∙ ap row_pairs (sym (add-one count))

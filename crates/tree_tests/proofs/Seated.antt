@@ -16,7 +16,7 @@ use Rattle.node_slots.specs.declared.seats.NodeSeat.{NodeSeat}
 use Rattle.node_slots.specs.declared.seats.NodeWriter.{NodeWriter}
 use Rattle.node_slots.specs.Trees.{shown_rows, grace_tree, IsShown}
 use Rattle.node_slots.specs.Views.{reader_view, word_at}
-use Rattle.node_slots.specs.Seats.{IsOf, Writes, view}
+use Rattle.node_slots.specs.Seats.{IsOfNodeTable, WritesNodeTable, node_view}
 use Rattle.tree_tests.specs.Leaves.{has_shown, IsInside, IsBeside, AreBeside}
 use Rattle.node_slots.proofs.Counting.{times_first, one_if}
 use Rattle.node_slots.proofs.Writers.{times_same}
@@ -28,7 +28,7 @@ root_there slots shown is =
     let rows = shown_rows shown in
     lt-ltb 0 (times shown.root.row.0 rows) (elim (cases_lt 0 shown.root.tree) [
       | inl some ↦
-          let once : levels.times shown.root.row.0 rows ≡ 1 = root-once (at_of shown.words) slots (tree_of (at_of shown.words) shown.root) (is.tree.later some) in
+          let once : levels.times_among shown.root.row.0 rows ≡ 1 = root-once (at_of shown.words) slots (tree_of (at_of shown.words) shown.root) (is.tree.later some) in
           omega (arith, once, times_same shown.root.row.0 rows)
       | inr none ↦
           let first = is.tree.first (omega arith) in
@@ -44,7 +44,7 @@ shown_row (Some shown) row has = (shown, refl, has)
 shown_row None row has = absurd (cc)
 
 -- a word is read through a snapshot
-pub inside_word : (old new : NodeSeat) (table : NodeTable) (row : ℕ) → IsInside old table row → IsOf new table → view new ≡ word_at (view old)
+pub inside_word : (old new : NodeSeat) (table : NodeTable) (row : ℕ) → IsInside old table row → IsOfNodeTable new table → node_view new ≡ word_at (node_view old)
     → IsInside new table row
 inside_word old new table row inside of is = record {
   table_is = of;
@@ -70,8 +70,8 @@ beside_fewer all fewer seat writer same beside =
     (λ at other is. each at other (there_still fewer seat at other is), each (length fewer) seat (there_last fewer seat))
 
 -- the readers of a new table
-pub beside_first : (seats : List NodeSeat) (writer : NodeWriter) (table : NodeTable) (size : Size) → Writes writer table
-    → ((reader : ℕ) (seat : NodeSeat) → slice_get seats reader ≡ Some seat → IsOf seat table × (view seat ≡ reader_view size reader))
+pub beside_first : (seats : List NodeSeat) (writer : NodeWriter) (table : NodeTable) (size : Size) → WritesNodeTable writer table
+    → ((reader : ℕ) (seat : NodeSeat) → slice_get seats reader ≡ Some seat → IsOfNodeTable seat table × (node_view seat ≡ reader_view size reader))
     → AreBeside seats writer
 beside_first seats writer table size writes fresh at seat is =
     let one = fresh at seat is in

@@ -21,8 +21,8 @@ use Rattle.lock_core.specs.Core.{slot_at, free_slot}
 use Rattle.lock_core.specs.Rows.{is_detached, attached_weight, Exactly}
 use Rattle.vma_lock.specs.declared.view.LockWriterState.{LockWriterState}
 use Rattle.vma_lock.specs.declared.view.View.{View}
-use Rattle.vma_lock.specs.Views.{begin_at, mark_at, try_at, write_at, lent_at, opened_view, slot_count}
-use Rattle.tree_tests.specs.Small.{IsSmall, AreFree, ShowsOne, IsMarking}
+use Rattle.vma_lock.specs.Views.{begin_at, mark_at, try_at, write_at, lent_at, opened_lock_view, slot_count}
+use Rattle.tree_tests.specs.Small.{IsWriterResting, AreFree, ShowsOne, IsMarking}
 
 -- free slots weigh nothing
 free_weigh : (weight : List ℕ → ℕ) (slots : List SlotState) → ((slot : ℕ) → is_detached (slot_at slots slot).row ≡ true) → sum_by (attached_weight weight) slots ≡ 0
@@ -98,7 +98,7 @@ enter_owes first lent begun marked written seat entry row lend begin mark write 
     free some_slot shows slots mark.writer_state (ap (λ (v : View). v.writer_state) write)))
 
 -- the space after a call that the model made
-pub small_after : (config : Config) (view : View) (entry : Entry) (list next : List Record) (counters more : Counters) (outcome : Outcome) → IsSmall view list counters
+pub small_after : (config : Config) (view : View) (entry : Entry) (list next : List Record) (counters more : Counters) (outcome : Outcome) → IsWriterResting view list counters
     → config ≡ view.config → outcome.space ≡ space_of next more → outcome ≡ step config (space_of list counters) entry.call
     → after view.config (view.seen ++ entry ∷ []) ≡ space_of next more
 small_after config view entry list next counters more outcome small same space is =
@@ -106,7 +106,7 @@ small_after config view entry list next counters more outcome small same space i
     (ap (λ c. (step c (space_of list counters) entry.call).space) (sym same) ∙ sym (ap (λ (o : Outcome). o.space) is) ∙ space)
 
 -- a new table is that of a space with no area
-pub opened_small : (config : Config) (readers : ℕ) → IsSmall (opened_view config readers) [] (counters_at_opening config)
+pub opened_small : (config : Config) (readers : ℕ) → IsWriterResting (opened_lock_view config readers) [] (counters_at_opening config)
 unfolding opening
 opened_small config readers = record {
   closed = refl;
@@ -121,7 +121,7 @@ opened_small config readers = record {
     free_copies (suc count) (suc slot) = free_copies count slot
 
 -- the reply of a call that the model made first
-pub small_reply : (config : Config) (view : View) (call : Call) (list : List Record) (counters : Counters) (outcome : Outcome) → IsSmall view list counters
+pub small_reply : (config : Config) (view : View) (call : Call) (list : List Record) (counters : Counters) (outcome : Outcome) → IsWriterResting view list counters
     → config ≡ view.config → outcome ≡ step config (space_of list counters) call
     → outcome.reply ≡ (step view.config (after view.config view.seen) call).reply
 small_reply config view call list counters outcome small same is =
@@ -140,5 +140,5 @@ marking_from first tried marked slot found is marking = record {
 
 -- the same, as the writer of a new table knows it
 pub opened_is_small : (config : Config) (readers : ℕ) (view : View) (list : List Record) (counters : Counters)
-    → counters ≡ counters_at_opening config → view ≡ opened_view config readers → list ≡ [] → IsSmall view list counters
+    → counters ≡ counters_at_opening config → view ≡ opened_lock_view config readers → list ≡ [] → IsWriterResting view list counters
 opened_is_small config readers view list counters counted is empty = rw (counted, is, empty) (opened_small config readers)

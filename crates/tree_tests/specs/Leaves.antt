@@ -6,14 +6,14 @@ use Rattle.node_slots.specs.declared.seats.NodeTable.{NodeTable}
 use Rattle.node_slots.specs.declared.seats.NodeSeat.{NodeSeat}
 use Rattle.node_slots.specs.declared.seats.NodeWriter.{NodeWriter}
 use Rattle.node_slots.specs.Trees.{grace_tree}
-use Rattle.node_slots.specs.Seats.{IsOf, IsOpen, IsClosed, view, sight, row_count, free_of, left_of, count_of}
+use Rattle.node_slots.specs.Seats.{IsOfNodeTable, IsOpen, IsClosed, node_view, node_sight, row_count, free_of, retired_rows, one_where}
 
 -- Each row but this one is free or was left, so it alone is the present tree's, and there are four slots.
 pub record IsOneLeaf (writer : NodeWriter) (row : ℕ) : Type 0 where
   pub within : row < row_count writer
   pub alone : (other : ℕ) → other < row_count writer
-      → times other (free_of writer) + times other (left_of writer) + count_of (nat_eq row other) ≡ 1
-  pub slots : (sight writer).size.slots ≡ 4
+      → times other (free_of writer) + times other (retired_rows writer) + one_where (nat_eq row other) ≡ 1
+  pub slots : (node_sight writer).size.slots ≡ 4
 
 -- whether a row is of a snapshot
 abbrev pub has_shown : Option ShownTree → ℕ → Bool
@@ -22,9 +22,9 @@ has_shown None row = false
 
 -- the reader is open, and its snapshot has this row
 pub record IsInside (seat : NodeSeat) (table : NodeTable) (row : ℕ) : Type 0 where
-  pub table_is : IsOf seat table
+  pub table_is : IsOfNodeTable seat table
   pub open_is : IsOpen seat
-  pub shows : has_shown (view seat).snapshot row ≡ true
+  pub shows : has_shown (node_view seat).snapshot row ≡ true
 
 -- the reader is of the writer's table, and closed
 pub record IsBeside (seat : NodeSeat) (writer : NodeWriter) : Type 0 where

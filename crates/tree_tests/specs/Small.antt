@@ -16,7 +16,7 @@ AreFree slots = (slot : ℕ) → slot ≢ 0 → is_detached (slot_at slots slot)
 
 -- The writer between two calls: it has no turn, the list and the counters are those after the journal, and all
 -- slots but the first are detached.
-pub record IsSmall (view : View) (list : List Record) (counters : Counters) : Type 0 where
+pub record IsWriterResting (view : View) (list : List Record) (counters : Counters) : Type 0 where
   pub closed : view.writer_state.seq % 2 ≡ 0
   pub turn : view.turn ≡ None
   pub space : after view.config view.seen ≡ space_of list counters

@@ -7,7 +7,7 @@ use Rattle.fault_path.specs.Passes.{PassView, caller}
 use Rattle.mm_space.specs.Names.{SpaceId}
 use Rattle.mm_space.specs.Opening.{AreOpened}
 use Rattle.mm_space.specs.Closing.{ClosedView, Closes}
-use Rattle.two_callers.specs.Called.{without_touches, called}
+use Rattle.two_callers.specs.Called.{without_touches, calls_made}
 use Rattle.two_callers.specs.Internal.Passes.{Starts, Made}
 
 -- the pass of a new space in a place, which has an operation for each of these calls and one more
@@ -28,6 +28,6 @@ starts name passes place pass calls fresh empty at operations =
 -- what a caller called is what the closed journal has of it
 pub closed_called : (name : SpaceId) (passes : List PassView) (closed : ClosedView) (place : ℕ) (pass : PassView) (calls : List Call)
     → Closes name passes closed → slice_get passes place ≡ Some pass → Made name calls pass → caller pass ≡ place
-    → called (calls_by place closed.journal) ≡ without_touches calls
+    → calls_made (calls_by place closed.journal) ≡ without_touches calls
 closed_called name passes closed place pass calls closes at made by =
-    ap (λ c. called (calls_by c closed.journal)) (sym by) ∙ ap called (closes.each place pass at).made ∙ made.made
+    ap (λ c. calls_made (calls_by c closed.journal)) (sym by) ∙ ap calls_made (closes.each place pass at).made ∙ made.made

@@ -19,5 +19,5 @@ abbrev pub without_touches : List Call → List Call
 without_touches calls = filter (λ call. not (is_touch call)) calls
 
 -- the calls of entries but for touches, in order
-abbrev pub called : List Entry → List Call
-called entries = without_touches (map (λ entry. entry.call) entries)
+abbrev pub calls_made : List Entry → List Call
+calls_made entries = without_touches (map (λ entry. entry.call) entries)

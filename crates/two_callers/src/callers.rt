@@ -6,7 +6,7 @@ ghost use Rattle.area_rules.specs.Steps.{IsLegalJournal};
 ghost use Rattle.lock_core.specs.Facts.{list_after};
 ghost use Rattle.fault_path.specs.Passes.{caller, made_by};
 ghost use Rattle.mm_space.specs.Names.{IsPassOf, ArePasses};
-ghost use Rattle.two_callers.specs.Called.{without_touches, called};
+ghost use Rattle.two_callers.specs.Called.{without_touches, calls_made};
 ghost use Rattle.two_callers.specs.Internal.Passes.{Starts, Made};
 
 use fault_path::Pass;
@@ -36,8 +36,8 @@ pub fn run<R: Threads + Wait + Sync>(
     requires few { length first.now + length second.now ≤ 1000 }
     ensures legal { IfOk result (λ closed. IsLegalJournal config closed.journal) }
     ensures list { IfOk result (λ closed. closed.list ≡ list_after config closed.journal) }
-    ensures first { IfOk result (λ closed. called (calls_by 0 closed.journal) ≡ without_touches first.now) }
-    ensures second { IfOk result (λ closed. called (calls_by 1 closed.journal) ≡ without_touches second.now) }
+    ensures first { IfOk result (λ closed. calls_made (calls_by 0 closed.journal) ≡ without_touches first.now) }
+    ensures second { IfOk result (λ closed. calls_made (calls_by 1 closed.journal) ≡ without_touches second.now) }
 {
     let operations = [first.len() as u64 + 1, second.len() as u64 + 1];
     let ready = Ready::make(alloc, config, &operations)?;
@@ -57,8 +57,8 @@ fn share<N: SpaceName + Send + Sync, R: Threads + Wait + Sync>(
     requires operations { ready.operations ≡ (length first.now + 1) ∷ (length second.now + 1) ∷ [] }
     ensures legal { IfOk result (λ closed. IsLegalJournal ready.config closed.journal) }
     ensures list { IfOk result (λ closed. closed.list ≡ list_after ready.config closed.journal) }
-    ensures first { IfOk result (λ closed. called (calls_by 0 closed.journal) ≡ without_touches first.now) }
-    ensures second { IfOk result (λ closed. called (calls_by 1 closed.journal) ≡ without_touches second.now) }
+    ensures first { IfOk result (λ closed. calls_made (calls_by 0 closed.journal) ≡ without_touches first.now) }
+    ensures second { IfOk result (λ closed. calls_made (calls_by 1 closed.journal) ≡ without_touches second.now) }
 {
     let (space, passes) = Space::<N>::open(ready);
     let (one, other) = both(passes);

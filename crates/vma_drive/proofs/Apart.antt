@@ -7,7 +7,7 @@ use Rattle.std.proofs.lemmas.Grind.{div_ceil_times}
 use Rattle.std.proofs.lemmas.Nat.{mul-le}
 use Rattle.std.proofs.lemmas.Option.{same_Some, slice_get-get_or}
 use Rattle.fault_path.specs.Passes.{PassView}
-use Rattle.vma_drive.specs.Internal.Rounds.{HasLine, IsBusy}
+use Rattle.vma_drive.specs.Internal.Rounds.{HasLineByRound, IsBusy}
 
 -- of the first callers, of all: how close two busy ones are at the closest, and which busy one is the last
 pub record Closest (busy : ℕ → Type 0) (all count closest : ℕ) (last : Option ℕ) : Type 0 where
@@ -110,7 +110,7 @@ Tells places rounds round passes caller answer = IsTrue answer ↔ IsBusy places
 -- a caller is busy where its pass has a line, and else is not
 pub tells_busy : (places : List (Vec ℕ Global)) (rounds : List ℕ) (round : ℕ) (passes : List PassView) (caller : ℕ) (pass : PassView) (answer : Bool)
     → slice_get passes caller ≡ Some pass → caller < length places
-    → ((own : Vec ℕ Global) → slice_get places caller ≡ Some own → IsTrue answer ↔ HasLine own.items rounds round pass)
+    → ((own : Vec ℕ Global) → slice_get places caller ≡ Some own → IsTrue answer ↔ HasLineByRound own.items rounds round pass)
     → Tells places rounds round passes caller answer
 tells_busy places rounds round passes caller pass answer here within line =
     let own : Vec ℕ Global = get_or places caller (some places caller within) in
@@ -118,7 +118,7 @@ tells_busy places rounds round passes caller pass answer here within line =
       λ yes. (pass, own, here, its, (line own its).0 yes),
       λ busy.
           let one : busy.0 ≡ pass = same_Some _ _ (sym busy.2 ∙ here) in
-          (line busy.1 busy.3).1 (subst (λ (p : PassView). HasLine busy.1.items rounds round p) one busy.4),
+          (line busy.1 busy.3).1 (subst (λ (p : PassView). HasLineByRound busy.1.items rounds round p) one busy.4),
     )
   where
     some : (places : List (Vec ℕ Global)) (caller : ℕ) → caller < length places → Vec ℕ Global

@@ -16,7 +16,7 @@ use Rattle.fault_path.specs.Passes.{PassView, seen_by, IsLater}
 use Rattle.vma_drive.specs.declared.rounds.Telling.{Telling}
 use Rattle.vma_drive.specs.Hearing.{own_by, AreToldBy, IsLate}
 use Rattle.vma_drive.specs.Naming.{NamesAt}
-use Rattle.vma_drive.specs.Internal.Rounds.{AreRounds, AreTellings, IsCut, RanRound, IsMoved}
+use Rattle.vma_drive.specs.Internal.Rounds.{AreRounds, AreTellings, RanLowerRounds, RanRound, IsMoved}
 use Rattle.vma_drive.proofs.OwnLines.{OwnAt, own_at, same_length}
 
 get_front : {X : Type 0} (xs ys : List X) (i : ℕ) (x : X) → i < length xs → slice_get (xs ++ ys) i ≡ Some x → slice_get xs i ≡ Some x
@@ -106,9 +106,9 @@ own_rises lines rounds caller places a b numbered are stand low within =
 -- after a round the lines that a pass ran are cut at the next round
 pub cut_next : (lines : List TraceLine) (rounds : List ℕ) (caller : ℕ) (places : List ℕ) (round owed : ℕ) (old mid new : PassView)
     → AreNumbered lines → AreRounds lines rounds → StandAt lines places (lines_of lines caller) → own_by mid ≡ own_by old
-    → IsCut rounds places round old → RanRound (lines_of lines caller) rounds places round owed mid new
+    → RanLowerRounds rounds places round old → RanRound (lines_of lines caller) rounds places round owed mid new
     → (length (own_by new) < length places → round < get_or rounds (get_or places (length (own_by new)) 0) 0)
-    → IsCut rounds places (round + 1) new
+    → RanLowerRounds rounds places (round + 1) new
 cut_next lines rounds caller places round owed old mid new numbered are stand same cut ran next = record {
   before = λ index within. elim (cases_lt index (length (own_by old))) [
     | inl early ↦ let low = cut.before index early in omega (arith, low)
@@ -129,7 +129,7 @@ module _ (lines : List TraceLine) (rounds : List ℕ) (tellings : List Telling) 
     (mids_all : length mids ≡ length olds)
     (news_all : length news ≡ length olds)
     (cut : (caller : ℕ) (pass : PassView) (own : Vec ℕ Global) → slice_get olds caller ≡ Some pass → slice_get places caller ≡ Some own
-    → IsCut rounds own.items round pass)
+    → RanLowerRounds rounds own.items round pass)
     (moved : (caller : ℕ) (old mid : PassView) → slice_get olds caller ≡ Some old → slice_get mids caller ≡ Some mid → IsMoved old mid)
     (heard : (index : ℕ) (telling : Telling) (teller hearer : PassView) → slice_get tellings index ≡ Some telling → telling.round ≡ round
     → slice_get olds telling.teller ≡ Some teller → slice_get mids telling.hearer ≡ Some hearer
@@ -198,8 +198,8 @@ module _ (lines : List TraceLine) (rounds : List ℕ) (tellings : List Telling) 
       let lower : get_or rounds (get_or telling.own.items j 0) 0 < get_or rounds (get_or hearing.own.items i 0) 0 =
       rounds_are.order.above (get_or hearing.own.items i 0) (get_or telling.own.items j 0) names in
       let within : i < length (own_by pass) = slice_get_within (own_by pass) i item item_is in
-      let said_cut : IsCut rounds telling.own.items round telling.old = cut t telling.old telling.own telling.old_is telling.own_is in
-      let heard_cut : IsCut rounds hearing.own.items round hearing.old = cut c hearing.old hearing.own hearing.old_is hearing.own_is in
+      let said_cut : RanLowerRounds rounds telling.own.items round telling.old = cut t telling.old telling.own telling.old_is telling.own_is in
+      let heard_cut : RanLowerRounds rounds hearing.own.items round hearing.old = cut c hearing.old hearing.own hearing.old_is hearing.own_is in
       let run_by : get_or rounds (get_or hearing.own.items i 0) 0 ≤ round = elim (cases_lt i (length (own_by hearing.old))) [
         | inl early ↦ let low = heard_cut.before i early in omega (arith, low)
         | inr late ↦ hearing.run.within i (omega (arith, late, ap length hearing.same)) within

@@ -17,13 +17,13 @@ use Rattle.trace_reader.specs.declared.trace.Op.{Op}
 use Rattle.trace_reader.specs.declared.trace.Op.TheVariants as ops
 use Rattle.area_rules.specs.Journals.{calls_by, version_of, IsReadRight}
 use Rattle.history.specs.declared.items.Item.{Item}
-use Rattle.history.specs.Histories.{items_of, is_call, op_of, read_as, asks_for, AsksItself}
+use Rattle.history.specs.Histories.{items_of, is_call, op_asked, read_as, asks_for, AsksItself}
 use Rattle.history.specs.Runs.{entry_items, log_items, read_item, content_of, own_of, HasGrown}
 use Rattle.history.proofs.Gathers.{all_gather}
 use Rattle.history.proofs.Steps.{entry_item, own_call, own_read, own_same, read_is_no_call, entries_stand, Stands}
 use Rattle.fault_path.specs.Passes.{PassView, caller, seen_by, made_by, IsLater}
 use Rattle.mm_space.specs.declared.space.Faulted.{Faulted}
-use Rattle.mm_space.specs.Spaces.{Calls, Reads, IsDone, entry_by}
+use Rattle.mm_space.specs.Spaces.{Calls, Reads, IsFaultDone, entry_by}
 use Rattle.vma_drive.specs.Hearing.{own_by, IsLate, Grew, HaveGrown, DoesItem}
 use Rattle.vma_drive.proofs.Operations.{split, nothing, calls_append}
 
@@ -105,7 +105,7 @@ module _ (settings : Config) (old new : PassView) (later : IsLater old new) wher
   same_grown : made_by new ≡ made_by old → HaveGrown old → HaveGrown new
   same_grown same before = subst (λ (l : List Entry). All HasGrown l) (sym same) before
 
-  pub grew_read : (read : Seen) (op : Op) → op_of (content_of read) ≡ read_as op → All (IsReadRight settings (seen_by old)) old.log
+  pub grew_read : (read : Seen) (op : Op) → op_asked (content_of read) ≡ read_as op → All (IsReadRight settings (seen_by old)) old.log
       → Reads old new read → DoesItem old new op
   grew_read read op asked right reads =
       let rest : List Entry = drop (length (seen_by old)) (seen_by new) in
@@ -129,7 +129,7 @@ module _ (settings : Config) (old new : PassView) (later : IsLater old new) wher
 
   -- a fault is a read of its own, or its touch is entered
   pub grew_fault : (page : Page) (access : Access) (done : Faulted) → All (IsReadRight settings (seen_by old)) old.log
-      → IsDone page access old new done → DoesItem old new (ops.Fault page access)
+      → IsFaultDone page access old new done → DoesItem old new (ops.Fault page access)
   grew_fault page access done right is = elim is [
     | inl read ↦ grew_read (reads.Fault done.version page access done.verdict) (ops.Fault page access) refl right read
     | inr grows ↦

@@ -21,7 +21,7 @@ use Rattle.area_rules.specs.Limits.{with_areas, config_for}
 use Rattle.area_rules.proofs.SameJournals.{after_for, legal_for, right_for}
 use Rattle.area_rules.proofs.SameSteps.{grows_same}
 use Rattle.history.specs.declared.items.Item.{Item}
-use Rattle.history.specs.Histories.{lines_of, items_of, gather, goes_first, call_of, asks_for, op_of, read_as}
+use Rattle.history.specs.Histories.{lines_of, items_of, gather, goes_first, call_made, asks_for, op_asked, read_as}
 use Rattle.history.specs.Runs.{own_of, ops_of, asked, entry_items, log_items, IsReadRightAfter, IsRun}
 use Rattle.history.proofs.Legal.{entries_length}
 use Rattle.history.proofs.SerialOrder.{insert_item}
@@ -53,7 +53,7 @@ unfolding own_of ops_of
 entries_among by journal log lines did = omega (
   arith,
   ap length did,
-  length-map (own_of by journal log) (λ (item : Item). op_of item.content),
+  length-map (own_of by journal log) (λ (item : Item). op_asked item.content),
   length-map lines (λ (line : TraceLine). read_as line.op),
   length-gather (items_of (entry_items 0 journal) by ++ log_items by log),
   length-append (items_of (entry_items 0 journal) by) (log_items by log),
@@ -124,8 +124,8 @@ run_length config lines callers journal logs run = omega (
 
 -- ---- with the limit for so many calls, and with the trace's own
 
-call_same : (areas : ℕ) (config : Config) (space : AddressSpace) (op : Op) → call_of (with_areas areas config) space op ≡ call_of config space op
-unfolding call_of
+call_same : (areas : ℕ) (config : Config) (space : AddressSpace) (op : Op) → call_made (with_areas areas config) space op ≡ call_made config space op
+unfolding call_made
 call_same areas config space (ops.Call call) = refl
 call_same areas config space (ops.Fault page access) =
     ap (λ (grow : Bool). cond grow (Some (Touch page access)) None) (grows_same areas config space.areas page.0 access)
@@ -161,9 +161,9 @@ module _ (calls : ℕ) (config : Config) (valid : IsValidConfig config) (few : c
   alone_result other start before lines (Err e) same starts fits ran = tt
 
   call_for : (journal : List Entry) (op : Op) → length journal ≤ calls
-      → call_of (config_for calls config) (after (config_for calls config) journal) op ≡ call_of config (after config journal) op
+      → call_made (config_for calls config) (after (config_for calls config) journal) op ≡ call_made config (after config journal) op
   call_for journal op within =
-      ap (λ (s : AddressSpace). call_of (config_for calls config) s op) (after_for calls config valid few journal within)
+      ap (λ (s : AddressSpace). call_made (config_for calls config) s op) (after_for calls config valid few journal within)
       ∙ call_same (config_for calls config).areas config (after config journal) op
 
   run_for : (lines : List TraceLine) (callers : ℕ) (journal : List Entry) (logs : List (List Seen)) → length lines ≤ calls

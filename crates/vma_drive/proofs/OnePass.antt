@@ -27,6 +27,7 @@ use Rattle.mm_space.specs.Opening.{AreOpened}
 use Rattle.mm_space.specs.Closing.{ClosedView, IsIn, Closes}
 use Rattle.mm_space.proofs.States.{parts, no_calls, own_since}
 use Rattle.mm_fork.specs.Children.{IsChildRun}
+use Rattle.mm_fork.proofs.ChildRuns.{whole_run}
 use Rattle.vma_drive.specs.Alone.{RanAlone}
 use Rattle.vma_drive.specs.Hearing.{own_by, done_by, IsLate, IsUnused, HaveGrown}
 use Rattle.vma_drive.specs.Sharing.{AreOfOneThread, NameNoLine}
@@ -275,7 +276,7 @@ child_run : (config : Config) (before : List Entry) (lines : List TraceLine) (ru
 child_run config before lines run ran strangers one alone = (
   ran.own,
   ran.journal,
-  record {
+  whole_run config before lines 1 ran.own run.logs (record {
     legal = ran.legal;
     grown = ran.grown;
     all = ap length ran.logs;
@@ -292,7 +293,7 @@ child_run config before lines run ran strangers one alone = (
     apart = λ by within. no_calls before by strangers (omega (arith, within));
     others = ran.others;
     no_lines = no_others lines one;
-  },
+  }),
 )
   where
     first_log : {logs : List (List Seen)} {first : List Seen} {place : ℕ} {log : List Seen} → logs ≡ first ∷ [] → slice_get logs place ≡ Some log

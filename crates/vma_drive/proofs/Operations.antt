@@ -14,7 +14,7 @@ use Rattle.history.proofs.Steps.{own_none, own_same}
 use Rattle.fault_path.specs.Passes.{PassView, caller, seen_by, made_by, IsLater}
 use Rattle.mm_space.specs.Names.{SpaceId}
 use Rattle.mm_space.specs.Opening.{AreOpened}
-use Rattle.vma_drive.specs.Hearing.{own_by, HaveGrown, IsUnused, AreUnused}
+use Rattle.vma_drive.specs.Hearing.{own_by, HaveGrown, IsUnused, AreFreshPasses}
 use Rattle.vma_drive.specs.Naming.{tells}
 use Rattle.vma_drive.specs.Sharing.{AreShares, AreEnough}
 
@@ -39,7 +39,7 @@ pub unused_grown : (pass : PassView) → IsUnused pass → HaveGrown pass
 unused_grown pass unused = subst (λ l. All HasGrown l) (sym unused.made) (All-nil HasGrown)
 
 -- so it is of the passes of a space that was opened with nothing before
-pub opened_unused : (name : SpaceId) (passes : List PassView) → name.before ≡ [] → AreOpened name passes → AreUnused passes
+pub opened_unused : (name : SpaceId) (passes : List PassView) → name.before ≡ [] → AreOpened name passes → AreFreshPasses passes
 opened_unused name passes none opened place pass found =
     let is = opened.opened place pass found in
     record { made = ap (λ (l : List Entry). calls_by (caller pass) l) (is.seen ∙ none); log = is.log }

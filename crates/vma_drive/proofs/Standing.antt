@@ -16,9 +16,9 @@ use Rattle.history.specs.CallerPlaces.{callers_of, ArePlaces, StandAt}
 use Rattle.fault_path.specs.Passes.{PassView, seen_by, IsLater}
 use Rattle.mm_space.specs.Names.{SpaceId, ArePasses}
 use Rattle.vma_drive.specs.declared.rounds.Telling.{Telling}
-use Rattle.vma_drive.specs.Hearing.{own_by, done_by, HasRun, HaveGrown, AreUnused}
+use Rattle.vma_drive.specs.Hearing.{own_by, done_by, HasRun, HaveGrown, AreFreshPasses}
 use Rattle.vma_drive.specs.Naming.{tells}
-use Rattle.vma_drive.specs.Internal.Rounds.{AreRounds, AreTellings, IsCut, RanRound, IsMoved, HasLine, IsWhole, Settled, AtRound, tells_from}
+use Rattle.vma_drive.specs.Internal.Rounds.{AreRounds, AreTellings, RanLowerRounds, RanRound, IsMoved, HasLineByRound, HasNoLineNext, Settled, AtRound, tells_from}
 use Rattle.vma_drive.specs.Sharing.{AreEnough}
 use Rattle.vma_drive.proofs.Operations.{unused_own, unused_grown}
 use Rattle.vma_drive.proofs.OwnLines.{OwnAt, own_at, same_length, has_same}
@@ -53,12 +53,12 @@ settle name lines shown places places_shown rounds rounds_shown tellings telling
       callers = callers ∙ ap callers_of (sym lines_are);
     }
 
-pub begun_fresh : (lines : List TraceLine) (passes : List PassView) → AreUnused passes
+pub begun_fresh : (lines : List TraceLine) (passes : List PassView) → AreFreshPasses passes
     → (caller : ℕ) (pass : PassView) → slice_get passes caller ≡ Some pass → (count : ℕ) × (done_by pass ≡ asked (take count (lines_of lines caller)))
 unfolding ops_of
 begun_fresh lines passes unused caller pass found = (0, ap ops_of (unused_own pass (unused caller pass found)))
 
-pub grown_fresh : (passes : List PassView) → AreUnused passes → (caller : ℕ) (pass : PassView) → slice_get passes caller ≡ Some pass
+pub grown_fresh : (passes : List PassView) → AreFreshPasses passes → (caller : ℕ) (pass : PassView) → slice_get passes caller ≡ Some pass
     → HaveGrown pass
 grown_fresh passes unused caller pass found = unused_grown pass (unused caller pass found)
 
@@ -72,7 +72,7 @@ module _ (name : SpaceId) (lines : List TraceLine)
   places_at passes are = subst (λ (n : ℕ). ArePlaces lines n places) (sym (callers_are passes are)) settled.places_are
 
   -- with passes with which nothing was done
-  pub at_first : (passes : List PassView) (owed : List ℕ) → ArePasses name passes → AreUnused passes → AreEnough lines passes → length owed ≡ length passes
+  pub at_first : (passes : List PassView) (owed : List ℕ) → ArePasses name passes → AreFreshPasses passes → AreEnough lines passes → length owed ≡ length passes
       → ((caller : ℕ) (pass : PassView) → slice_get passes caller ≡ Some pass → get_or owed caller 0 ≡ pass.left)
       → AtRound name lines places rounds tellings passes owed 0
   unfolding ops_of
@@ -127,7 +127,7 @@ module _ (name : SpaceId) (lines : List TraceLine)
       let own : Vec ℕ Global = get_or places caller (some places caller inside) in
       let its : slice_get places caller ≡ Some own = slice_get-get_or places caller (some places caller inside) inside in
       let stand : StandAt lines own.items (lines_of lines caller) = are.stand caller own its in
-      let cut : IsCut rounds own.items round pass = at.cut caller pass own found its in
+      let cut : RanLowerRounds rounds own.items round pass = at.cut caller pass own found its in
       let all : length own.items ≤ length (own_by pass) = elim (cases_lt (length (own_by pass)) (length own.items)) [
         | inl early ↦
             let place : ℕ = get_or own.items (length (own_by pass)) 0 in
@@ -230,14 +230,14 @@ module _ (name : SpaceId) (lines : List TraceLine)
       pub grown_new : (caller : ℕ) (new : PassView) → slice_get news caller ≡ Some new → HaveGrown new
       grown_new caller new found = (has_new caller new found).grown
 
-      past : (own : List ℕ) (pass : PassView) → ¬ HasLine own rounds round pass → length (own_by pass) < length own
+      past : (own : List ℕ) (pass : PassView) → ¬ HasLineByRound own rounds round pass → length (own_by pass) < length own
           → round < get_or rounds (get_or own (length (own_by pass)) 0) 0
       past own pass none more = elim (cases_lt round (get_or rounds (get_or own (length (own_by pass)) 0) 0)) [
         | inl less ↦ less
         | inr low ↦ absurd (none (more, low))
       ]
 
-      pub at_next : IsWhole places rounds round news → AtRound name lines places rounds tellings news owed (round + 1)
+      pub at_next : HasNoLineNext places rounds round news → AtRound name lines places rounds tellings news owed (round + 1)
       at_next whole = record {
         passes_are = news_are;
         owed_all = owed_all ∙ at.owed_all ∙ sym news_all;

@@ -3,7 +3,7 @@ use Rattle.std.specs.Prelude.{ℕ, ◌≡◌, ◌≤◌, ◌+◌, if◌then◌el
 use Rattle.trace_reader.specs.declared.trace.Op.{Op}
 use Rattle.trace_reader.specs.declared.trace.TraceLine.{TraceLine}
 use Rattle.history.specs.declared.items.Item.{Item}
-use Rattle.history.specs.Histories.{is_call, lines_of, op_of, read_as}
+use Rattle.history.specs.Histories.{is_call, lines_of, op_asked, read_as}
 use Rattle.history.specs.Runs.{own_of, ops_of, asked, HasGrown, ComesAfter}
 use Rattle.fault_path.specs.Passes.{PassView, caller, seen_by, made_by}
 
@@ -29,8 +29,8 @@ pub record IsUnused (pass : PassView) : Type 0 where
   pub log : pass.log ≡ []
 
 -- nothing was done with any of these passes
-abbrev pub AreUnused : List PassView → Type 0
-AreUnused passes = (caller : ℕ) (pass : PassView) → slice_get passes caller ≡ Some pass → IsUnused pass
+abbrev pub AreFreshPasses : List PassView → Type 0
+AreFreshPasses passes = (caller : ℕ) (pass : PassView) → slice_get passes caller ≡ Some pass → IsUnused pass
 
 -- these items were done more, all of them once all was seen that had been seen before, and each touch among them has grown
 pub record Grew (old new : PassView) (more : List Item) : Type 0 where
@@ -42,7 +42,7 @@ pub record Grew (old new : PassView) (more : List Item) : Type 0 where
 pub record DoesItem (old new : PassView) (op : Op) : Type 0 where
   pub item : Item
   pub grew : Grew old new (item ∷ [])
-  pub asked : op_of item.content ≡ read_as op
+  pub asked : op_asked item.content ≡ read_as op
   pub left : new.left + 1 ≡ old.left
 
 -- nothing was done, and no operation was taken

@@ -2,7 +2,7 @@
 ghost use Rattle.std.specs.Prelude.{◌≡◌, ◌≤◌, ◌<◌, ◌+◌, ◌↔◌, ℕ, length, slice_get, slice_index, Some, IsTrue, Vec};
 ghost use Rattle.std.specs.declared.alloc.Global.{Global};
 ghost use Rattle.vma_drive.specs.Hearing.{own_by};
-ghost use Rattle.vma_drive.specs.Internal.Rounds.{AreApart, HasLine, IsWhole};
+ghost use Rattle.vma_drive.specs.Internal.Rounds.{HaveThreadsApart, HasLineByRound, HasNoLineNext};
 ghost use Rattle.vma_drive.specs.Internal.Callers.{ArePlacesIn, IsRoundOf};
 
 use fault_path::Pass;
@@ -28,8 +28,8 @@ pub(crate) fn threads_for(passes: &[Pass], round: Round<'_>) -> usize
     requires some { 0 < length passes.now }
     requires round { IsRoundOf round passes.now }
     ensures some { 0 < result }
-    ensures apart { AreApart round.entry.places.now round.entry.rounds.now round.entry.number passes.now result }
-    ensures fewest { (fewer : ℕ) → 0 < fewer → AreApart round.entry.places.now round.entry.rounds.now round.entry.number passes.now fewer → result ≤ fewer }
+    ensures apart { HaveThreadsApart round.entry.places.now round.entry.rounds.now round.entry.number passes.now result }
+    ensures fewest { (fewer : ℕ) → 0 < fewer → HaveThreadsApart round.entry.places.now round.entry.rounds.now round.entry.number passes.now fewer → result ≤ fewer }
 {
     let mut closest = passes.len();
     let mut last = None;
@@ -47,7 +47,7 @@ pub(crate) fn threads_for(passes: &[Pass], round: Round<'_>) -> usize
 /// Whether no caller has a line left of a round or of a lower one.
 pub(crate) fn is_whole(passes: &[Pass], round: Round<'_>) -> bool
     requires { IsRoundOf round passes.now }
-    ensures { IsTrue result ↔ IsWhole round.entry.places.now round.entry.rounds.now round.entry.number passes.now }
+    ensures { IsTrue result ↔ HasNoLineNext round.entry.places.now round.entry.rounds.now round.entry.number passes.now }
 {
     for (caller, pass) in passes.iter().enumerate() {
         if has_line(pass, round, caller) {
@@ -63,7 +63,7 @@ fn has_line(pass: &Pass, round: Round<'_>, caller: usize) -> bool
     requires within { ArePlacesIn (length round.rounds.now) round.places.now }
     requires left { pass.now.left + length (own_by pass.now) ≡ slice_index round.owed.now caller }
     ensures { (own : Vec ℕ Global) → slice_get round.entry.places.now caller ≡ Some own
-        → IsTrue result ↔ HasLine own.items round.entry.rounds.now round.entry.number pass.now }
+        → IsTrue result ↔ HasLineByRound own.items round.entry.rounds.now round.entry.number pass.now }
 {
     let own = round.places[caller].as_slice();
     let done = (round.owed[caller] - pass.left()) as usize;

@@ -8,7 +8,7 @@ ghost use Rattle.history.specs.Runs.{asked};
 ghost use Rattle.history.specs.SpaceLines.{AreSpaceLines};
 ghost use Rattle.fault_path.specs.Passes.{PassView, IsLater, seen_by};
 ghost use Rattle.mm_space.specs.Names.{IsPassOf, ArePasses};
-ghost use Rattle.vma_drive.specs.Hearing.{done_by, own_by, HaveGrown, IsLate, IsUnused, AreUnused, AreToldBy};
+ghost use Rattle.vma_drive.specs.Hearing.{done_by, own_by, HaveGrown, IsLate, IsUnused, AreFreshPasses, AreToldBy};
 ghost use Rattle.vma_drive.specs.Internal.Rounds.{Settled, AtRound};
 ghost use Rattle.vma_drive.specs.Sharing.{AreEnough};
 
@@ -16,7 +16,7 @@ use crate::busy::{Round, is_whole};
 use crate::rounds::{Telling, count_rounds, rounds_of, tellings_of};
 use crate::telling::tell_round;
 use crate::watcher::{NoWatcher, Watcher};
-use crate::working::{run_op, run_workers};
+use crate::working::{run_told, run_workers};
 use fault_path::Pass;
 use history::{Callers, SpaceLines, has_forks, lines_of_parent, places_by_caller};
 use io_edge::Gate;
@@ -41,7 +41,7 @@ pub fn drive<N: SpaceName + Send + Sync, R: Threads + Wait + Sync, G: Gate>(
 ) -> Result<(), NoMemory>
     requires trace { IsTraceValue trace.now }
     requires passes { ArePasses N.name passes.old }
-    requires unused { AreUnused passes.old }
+    requires unused { AreFreshPasses passes.old }
     requires enough { AreEnough (parent_lines trace.now.lines) passes.old }
     ensures passes { ArePasses N.name passes.new }
     ensures begun { (caller : ℕ) (pass : PassView) → slice_get passes.new caller ≡ Some pass
@@ -66,7 +66,7 @@ pub(crate) fn drive_lines<N: SpaceName + Send + Sync, R: Threads + Wait + Sync, 
 ) -> Result<(), NoMemory>
     requires lines { AreSpaceLines lines.now }
     requires passes { ArePasses N.name passes.old }
-    requires unused { AreUnused passes.old }
+    requires unused { AreFreshPasses passes.old }
     requires enough { AreEnough lines.now passes.old }
     ensures passes { ArePasses N.name passes.new }
     ensures begun { (caller : ℕ) (pass : PassView) → slice_get passes.new caller ≡ Some pass
@@ -182,9 +182,7 @@ pub(crate) fn in_order_with<N: SpaceName, R: Wait, T: Watcher<R>>(
     ensures grown { HaveGrown pass.new }
 {
     for line in lines {
-        watcher.before(rt, line.number);
-        run_op(rt, alloc, space, pass, line.op)?;
-        watcher.after(rt, line.number);
+        run_told(rt, alloc, space, pass, line, watcher)?;
     }
     Ok(())
 }

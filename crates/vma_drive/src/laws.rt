@@ -8,7 +8,7 @@ ghost use Rattle.trace_reader.specs.declared.trace.Trace.{Trace};
 ghost use Rattle.trace_reader.specs.declared.trace.TraceLine.{TraceLine};
 ghost use Rattle.history.specs.declared.answers.BadEntry.{BadEntry};
 ghost use Rattle.history.specs.CallerPlaces.{callers_of};
-ghost use Rattle.history.specs.Checking.{IsRefused};
+ghost use Rattle.history.specs.Checking.{IsHistoryRefused};
 ghost use Rattle.history.specs.Histories.{IsLegalHistory};
 ghost use Rattle.history.specs.Parents.{parent_lines};
 ghost use Rattle.history.specs.Runs.{IsRun, history_of};
@@ -26,5 +26,5 @@ pub fn gathered_runs_are_accepted()
         → IsLegalHistory trace.config [] (parent_lines trace.lines) (history_of run.journal run.logs) }
     ensures accepted { (trace : Trace) (run : ClosedView) (bad : BadEntry) → IsTraceValue trace
         → IsRun trace.config [] (parent_lines trace.lines) (callers_of (parent_lines trace.lines)) run.journal run.logs
-        → IsRefused trace.config [] (parent_lines trace.lines) (history_of run.journal run.logs) bad → ⊥ }
+        → IsHistoryRefused trace.config [] (parent_lines trace.lines) (history_of run.journal run.logs) bad → ⊥ }
 {}

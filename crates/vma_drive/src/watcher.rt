@@ -9,7 +9,7 @@ pub trait Watcher<R: Wait> {
     /// The operation on this line of the trace, counted from 1, comes next.
     fn before(&self, rt: &R, line: u64);
 
-    /// The operation on this line of the trace, counted from 1, was made.
+    /// The operation on this line of the trace, counted from 1, was made, or memory ran out in it.
     fn after(&self, rt: &R, line: u64);
 }
 

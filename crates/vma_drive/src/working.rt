@@ -9,6 +9,7 @@ ghost use Rattle.vma_drive.specs.Hearing.{DoesItem, GrewNone, HasRun};
 ghost use Rattle.vma_drive.specs.Internal.Rounds.{RanRound};
 
 use crate::busy::{Round, threads_for};
+use crate::watcher::{GateWatcher, Watcher};
 use fault_path::Pass;
 use io_edge::Gate;
 use mm_space::{Space, SpaceName};
@@ -17,7 +18,7 @@ use std::alloc::Global;
 use std::sync::Wait;
 use std::thread;
 use std::thread::Threads;
-use trace_reader::Op;
+use trace_reader::{Op, TraceLine};
 
 /// Runs the lines of each caller that are of this round with its pass, in a thread of its own.
 pub(crate) fn run_workers<N: SpaceName + Send + Sync, R: Threads + Wait + Sync, G: Gate>(
@@ -82,22 +83,45 @@ fn run_own<N: SpaceName, R: Threads + Wait + Sync, G: Gate>(
 {
     let own = round.places[caller].as_slice();
     let done = (round.owed[caller] - pass.left()) as usize;
+    let watcher = GateWatcher(gate);
     for index in done..own.len() {
         let place = own[index] as usize;
         if round.rounds[place] > round.number {
             return;
         }
         let line = &round.lines[place];
-        gate.before(rt, line.number);
-        let Ok(()) = run_op(rt, alloc, space, pass, line.op) else {
+        let Ok(()) = run_told(rt, alloc, space, pass, line, &watcher) else {
             return;
         };
-        gate.after(rt, line.number);
     }
 }
 
+/// Runs the operation of a line with a pass. A watcher is told before it and after it, whatever it results in. Refused where memory runs out,
+/// and then nothing was done.
+pub(crate) fn run_told<N: SpaceName, R: Wait, T: Watcher<R>>(
+    rt: &R,
+    alloc: Global,
+    space: &Space<N>,
+    pass: &mut Pass,
+    line: &TraceLine,
+    watcher: &T,
+) -> Result<(), NoMemory>
+    requires pass { IsPassOf N.name pass.old }
+    requires left { 0 < pass.old.left }
+    requires op { AsksItself line.now.op }
+    ensures pass { IsPassOf N.name pass.new }
+    ensures later { IsLater pass.old pass.new }
+    ensures ok { OnOk result (DoesItem pass.old pass.new line.now.op) }
+    ensures err { OnErr result (GrewNone pass.old pass.new) }
+{
+    watcher.before(rt, line.number);
+    let done = run_op(rt, alloc, space, pass, line.op);
+    watcher.after(rt, line.number);
+    done
+}
+
 /// Runs one operation with a pass. Refused where memory runs out, and then nothing was done.
-pub(crate) fn run_op<N: SpaceName, R: Wait>(
+fn run_op<N: SpaceName, R: Wait>(
     rt: &R,
     alloc: Global,
     space: &Space<N>,

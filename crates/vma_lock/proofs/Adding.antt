@@ -8,8 +8,8 @@ use Rattle.std.proofs.lemmas.List.{length-map}
 use Rattle.mm_types.specs.declared.call.Entry.{Entry}
 use Rattle.mm_types.specs.declared.config.Config.{Config}
 use Rattle.lock_core.specs.declared.stage.Stage.TheVariants.{Out, Holds}
-use Rattle.lock_core.specs.Core.{Core, Reader, slot_at, count_at, reader_at, gone_reader, held, holds}
-use Rattle.lock_core.specs.Facts.{Facts}
+use Rattle.lock_core.specs.Core.{LockCore, Reader, slot_at, count_at, reader_at, gone_reader, slot_held, holds}
+use Rattle.lock_core.specs.Facts.{LockFacts}
 use Rattle.lock_core.specs.Events.{held_slot}
 use Rattle.lock_core.specs.Words.{mark_word}
 use Rattle.lock_core.proofs.Elements.{one_weighs}
@@ -20,15 +20,15 @@ use Rattle.vma_lock.specs.declared.view.SeatKind.TheVariants.{Reads}
 use Rattle.vma_lock.specs.declared.view.View.{View}
 use Rattle.vma_lock.specs.Views.{slot_count, reader_of, add_at, sub_at}
 use Rattle.vma_lock.specs.Words.{table_words, mark_place}
-use Rattle.vma_lock.specs.Rule.{Fits, Shows}
-use Rattle.vma_lock.specs.Plays.{added, given_back}
+use Rattle.vma_lock.specs.Rule.{LockSeatFits, ShowsLock}
+use Rattle.vma_lock.specs.Plays.{add_tells, sub_tells}
 use Rattle.vma_lock.proofs.Lines.{word-mark, words-count}
 use Rattle.vma_lock.proofs.Standing.{IsSeat, seat_found, readers_after, stands_reading, count_few}
 
 -- an add leaves what is so of the seat
-add_fits : (config : Config) (state : State Entry View) (shows : Shows config state) (seat slot found : ℕ) (view : View)
+add_fits : (config : Config) (state : State Entry View) (shows : ShowsLock config state) (seat slot found : ℕ) (view : View)
     → IsSeat config state shows seat view → view.kind ≡ Reads
-    → Fits config shows.core.seq shows.core.slots shows.core.journal shows.made seat (add_at view slot found)
+    → LockSeatFits config shows.core.seq shows.core.slots shows.core.journal shows.made seat (add_at view slot found)
 add_fits config state shows seat slot found view at reads = record {
   settings = at.fits.settings;
   turn = at.fits.turn;
@@ -41,9 +41,9 @@ add_fits config state shows seat slot found view at reads = record {
 
 -- add
 pub add_allows : (config : Config) (slots seat slot : ℕ) (me : Me Entry View) → me.0.kind ≡ Reads → me.0.stage ≡ Out → slot < slot_count config
-    → Allows (Shows config) slots seat me (mark_place slot) (λ n. (n + 1) % 2 ^ 64) (added (step slots (mark_place slot) 1 0 none) me)
+    → Allows (ShowsLock config) slots seat me (mark_place slot) (λ n. (n + 1) % 2 ^ 64) (add_tells (step slots (mark_place slot) 1 0 none) me)
 add_allows config slots seat slot me reads out there state shows homes found fits =
-    let core : Core = shows.core in
+    let core : LockCore = shows.core in
     let at = seat_found config state shows seat me.0 found in
     let lock_seq : ℕ = (slot_at core.slots slot).lock_seq in
     let count : ℕ = count_at core.counts slot in
@@ -76,7 +76,7 @@ add_allows config slots seat slot me reads out there state shows homes found fit
     )
 
 -- the slot that a reader holds is counted
-held_counted : (core : Core) (config : Config) (seat : ℕ) (at : ℕ × ℕ) → Facts config core → held (reader_at core.readers seat).stage ≡ Some at
+held_counted : (core : LockCore) (config : Config) (seat : ℕ) (at : ℕ × ℕ) → LockFacts config core → slot_held (reader_at core.readers seat).stage ≡ Some at
     → seat < length core.readers → 0 < count_at core.counts at.0
 held_counted core config seat at facts holding within =
     let weight : Reader → ℕ = λ reader. cond (holds at.0 reader) 1 0 in
@@ -86,14 +86,14 @@ held_counted core config seat at facts holding within =
     omega (arith, one, counted, one_weighs weight core.readers seat gone_reader within)
 
 -- sub
-pub sub_allows : (config : Config) (slots seat : ℕ) (at : ℕ × ℕ) (me : Me Entry View) → me.0.kind ≡ Reads → held me.0.stage ≡ Some at
-    → Allows (Shows config) slots seat me (mark_place at.0) (λ n. (n + (2 ^ 64 - 1)) % 2 ^ 64) (given_back (step slots (mark_place at.0) 1 0 none) me)
+pub sub_allows : (config : Config) (slots seat : ℕ) (at : ℕ × ℕ) (me : Me Entry View) → me.0.kind ≡ Reads → slot_held me.0.stage ≡ Some at
+    → Allows (ShowsLock config) slots seat me (mark_place at.0) (λ n. (n + (2 ^ 64 - 1)) % 2 ^ 64) (sub_tells (step slots (mark_place at.0) 1 0 none) me)
 sub_allows config slots seat at me reads holding state shows homes found fits =
-    let core : Core = shows.core in
+    let core : LockCore = shows.core in
     let is = seat_found config state shows seat me.0 found in
     let lock_seq : ℕ = (slot_at core.slots at.0).lock_seq in
     let count : ℕ = count_at core.counts at.0 in
-    let some_there : held (reader_at core.readers seat).stage ≡ Some at = ap (λ (r : Reader). held r.stage) is.reader ∙ holding in
+    let some_there : slot_held (reader_at core.readers seat).stage ≡ Some at = ap (λ (r : Reader). slot_held r.stage) is.reader ∙ holding in
     let place : IsFound core.slots (Some at) = subst (IsFound core.slots) some_there (shows.facts.holders.found seat) in
     let within : at.0 < length core.slots = place.0 in
     let inside : seat < length core.readers =
@@ -111,8 +111,8 @@ sub_allows config slots seat at me reads holding state shows homes found fits =
     let slot_is : held_slot core seat ≡ at.0 = ap (λ (o : Option (ℕ × ℕ)). (unwrap_or o (0, 0)).0) some_there in
     let counts : List ℕ = set core.counts at.0 (count - 1) in
     let readers : List Reader = set core.readers seat (record (reader_at core.readers seat) { stage = Out }) in
-    let facts : Facts config (record core { counts = counts; readers = readers }) =
-    subst (λ slot. Facts config (record core { counts = set core.counts slot (count_at core.counts slot - 1); readers = readers })) slot_is
+    let facts : LockFacts config (record core { counts = counts; readers = readers }) =
+    subst (λ slot. LockFacts config (record core { counts = set core.counts slot (count_at core.counts slot - 1); readers = readers })) slot_is
     (sub_keeps config core seat at shows.facts some_there) in
     let readers_are : readers ≡ map reader_of (set state.views seat new) =
     ap (λ (r : Reader). set core.readers seat (record r { stage = Out })) is.reader ∙ readers_after config state shows seat new in

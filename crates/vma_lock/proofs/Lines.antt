@@ -5,7 +5,7 @@ use Rattle.lock_core.specs.declared.stage.SlotState.{SlotState}
 use Rattle.lock_core.specs.Core.{slot_at, count_at, free_slot}
 use Rattle.lock_core.specs.Words.{mark_word, line, lines, flat}
 use Rattle.lock_core.proofs.Words.{AllWide, flat-get, flat-set, lines-length, lines-get, lines-set}
-use Rattle.vma_lock.specs.Words.{padded, sequence_line, table_words, mark_place, field_place}
+use Rattle.vma_lock.specs.Words.{padded_slot, sequence_line, table_words, mark_place, field_place}
 
 -- the rows have four words
 abbrev pub AreWide : List SlotState → Type 0
@@ -13,18 +13,18 @@ AreWide slots = (slot : ℕ) → length (slot_at slots slot).row ≡ 4
 
 -- the padded line of a slot
 line_at : (slots : List SlotState) (counts : List ℕ) (slot : ℕ) → length counts ≡ length slots → slot < length slots
-    → get_or (map padded (lines slots counts)) slot [] ≡ padded (line (slot_at slots slot) (count_at counts slot))
+    → get_or (map padded_slot (lines slots counts)) slot [] ≡ padded_slot (line (slot_at slots slot) (count_at counts slot))
 line_at slots counts slot same within =
-    get_or-map padded (lines slots counts) slot [] [] (omega (arith, within, lines-length slots counts same))
-    ∙ ap padded (lines-get slots counts slot same within)
+    get_or-map padded_slot (lines slots counts) slot [] [] (omega (arith, within, lines-length slots counts same))
+    ∙ ap padded_slot (lines-get slots counts slot same within)
 
 -- each line has eight words
 all_wide : (seq : ℕ) (slots : List SlotState) (counts : List ℕ) → length counts ≡ length slots → AreWide slots
-    → AllWide 8 (sequence_line seq ∷ map padded (lines slots counts))
+    → AllWide 8 (sequence_line seq ∷ map padded_slot (lines slots counts))
 unfolding AllWide
 all_wide seq slots counts same wide zero within = refl
 all_wide seq slots counts same wide (suc k) within =
-    let inside : k < length slots = omega (arith, within, length-map (lines slots counts) padded, lines-length slots counts same) in
+    let inside : k < length slots = omega (arith, within, length-map (lines slots counts) padded_slot, lines-length slots counts same) in
     ap (λ (l : List ℕ). length l) (line_at slots counts k same inside)
     ∙ length-append (line (slot_at slots k) (count_at counts k)) (0 ∷ 0 ∷ 0 ∷ [])
     ∙ (let e : suc (length (slot_at slots k).row) + 3 ≡ 8 = omega (arith, wide k) in e)
@@ -32,12 +32,12 @@ all_wide seq slots counts same wide (suc k) within =
 -- a word of a slot's line
 word : (seq : ℕ) (slots : List SlotState) (counts : List ℕ) (slot i n : ℕ) → length counts ≡ length slots → AreWide slots
     → n ≡ (slot + 1) * 8 + i → slot < length slots → i < 8
-    → get_or (table_words seq slots counts) n 0 ≡ get_or (padded (line (slot_at slots slot) (count_at counts slot))) i 0
+    → get_or (table_words seq slots counts) n 0 ≡ get_or (padded_slot (line (slot_at slots slot) (count_at counts slot))) i 0
 unfolding table_words
 word seq slots counts slot i n same wide is within inside =
-    ap (λ m. get_or (flat (sequence_line seq ∷ map padded (lines slots counts))) m 0) (let e : n ≡ 8 * suc slot + i = omega arith in e)
-    ∙ flat-get 8 (sequence_line seq ∷ map padded (lines slots counts)) (all_wide seq slots counts same wide) (suc slot) i
-    (omega (arith, within, length-map (lines slots counts) padded, lines-length slots counts same)) inside
+    ap (λ m. get_or (flat (sequence_line seq ∷ map padded_slot (lines slots counts))) m 0) (let e : n ≡ 8 * suc slot + i = omega arith in e)
+    ∙ flat-get 8 (sequence_line seq ∷ map padded_slot (lines slots counts)) (all_wide seq slots counts same wide) (suc slot) i
+    (omega (arith, within, length-map (lines slots counts) padded_slot, lines-length slots counts same)) inside
     ∙ ap (λ (l : List ℕ). get_or l i 0) (line_at slots counts slot same within)
 
 -- the sequence
@@ -60,17 +60,17 @@ word-field seq slots counts slot field same wide within inside =
 -- a word that changes in a slot's line
 word-set : (seq : ℕ) (slots : List SlotState) (counts : List ℕ) (slot i n x : ℕ) (changed : SlotState) (count : ℕ)
     → length counts ≡ length slots → AreWide slots → n ≡ (slot + 1) * 8 + i → slot < length slots → i < 8
-    → set (padded (line (slot_at slots slot) (count_at counts slot))) i x ≡ padded (line changed count)
+    → set (padded_slot (line (slot_at slots slot) (count_at counts slot))) i x ≡ padded_slot (line changed count)
     → set (table_words seq slots counts) n x ≡ table_words seq (set slots slot changed) (set counts slot count)
 unfolding table_words
 word-set seq slots counts slot i n x changed count same wide is within inside change =
     let all : List (List ℕ) = lines slots counts in
-    ap (λ m. set (flat (sequence_line seq ∷ map padded all)) m x) (let e : n ≡ 8 * suc slot + i = omega arith in e)
-    ∙ flat-set 8 (sequence_line seq ∷ map padded all) (all_wide seq slots counts same wide) (suc slot) i x
-    (omega (arith, within, length-map all padded, lines-length slots counts same)) inside
-    ∙ ap (λ (l : List ℕ). flat (sequence_line seq ∷ set (map padded all) slot (set l i x))) (line_at slots counts slot same within)
-    ∙ ap (λ (l : List ℕ). flat (sequence_line seq ∷ set (map padded all) slot l)) change
-    ∙ ap (λ (l : List (List ℕ)). flat (sequence_line seq ∷ l)) (sym (map-set padded all slot (line changed count)) ∙ ap (map padded) (lines-set slots counts slot changed count same))
+    ap (λ m. set (flat (sequence_line seq ∷ map padded_slot all)) m x) (let e : n ≡ 8 * suc slot + i = omega arith in e)
+    ∙ flat-set 8 (sequence_line seq ∷ map padded_slot all) (all_wide seq slots counts same wide) (suc slot) i x
+    (omega (arith, within, length-map all padded_slot, lines-length slots counts same)) inside
+    ∙ ap (λ (l : List ℕ). flat (sequence_line seq ∷ set (map padded_slot all) slot (set l i x))) (line_at slots counts slot same within)
+    ∙ ap (λ (l : List ℕ). flat (sequence_line seq ∷ set (map padded_slot all) slot l)) change
+    ∙ ap (λ (l : List (List ℕ)). flat (sequence_line seq ∷ l)) (sym (map-set padded_slot all slot (line changed count)) ∙ ap (map padded_slot) (lines-set slots counts slot changed count same))
 
 -- another count of readers
 pub words-count : (seq : ℕ) (slots : List SlotState) (counts : List ℕ) (slot count : ℕ) → length counts ≡ length slots → AreWide slots

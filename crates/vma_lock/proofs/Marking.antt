@@ -9,10 +9,10 @@ use Rattle.mm_types.specs.declared.config.Config.{Config}
 use Rattle.area_rules.specs.Steps.{step as call_step, after, IsLegalJournal}
 use Rattle.area_rules.proofs.Journals.{legal-push}
 use Rattle.lock_core.specs.declared.stage.SlotState.{SlotState}
-use Rattle.lock_core.specs.Core.{Core, Reader, slot_at, count_at, reader_at}
-use Rattle.lock_core.specs.Facts.{Facts, list_after}
+use Rattle.lock_core.specs.Core.{LockCore, Reader, slot_at, count_at, reader_at}
+use Rattle.lock_core.specs.Facts.{LockFacts, list_after}
 use Rattle.lock_core.specs.Rows.{Exactly}
-use Rattle.lock_core.specs.Events.{looked as stage_after, after_begin, after_mark, after_store, after_end, after_look}
+use Rattle.lock_core.specs.Events.{stage_after_look as stage_after, after_begin, after_mark, after_store, after_end, after_look}
 use Rattle.lock_core.specs.Words.{mark_word}
 use Rattle.lock_core.proofs.Holding.{starts_all}
 use Rattle.lock_core.proofs.Keeping.{begin_keeps, mark_keeps, store_keeps, end_keeps, look_keeps}
@@ -20,11 +20,11 @@ use Rattle.atomic_table.specs.Table.{State, Me, step, stepped, Allows, keeps}
 use Rattle.atomic_table.proofs.Lists.{exchanged}
 use Rattle.vma_lock.specs.declared.view.SeatKind.TheVariants.{Writes}
 use Rattle.vma_lock.specs.declared.view.View.{View}
-use Rattle.vma_lock.specs.Views.{slot_count, reader_of, view_at, spent_view, begin_at, try_at, mark_at, store_at, end_at}
+use Rattle.vma_lock.specs.Views.{slot_count, reader_of, lock_view_at, spent_lock_view, begin_at, try_at, mark_at, lock_store_at, end_at}
 use Rattle.area_rules.specs.Journals.{calls_by}
 use Rattle.vma_lock.specs.Words.{table_words, mark_place, field_place}
-use Rattle.vma_lock.specs.Rule.{IsTraced, turn_weight, bears, IsWriter, Fits, Shows}
-use Rattle.vma_lock.specs.Plays.{begun, tried, stored, ended}
+use Rattle.vma_lock.specs.Rule.{IsTraced, turn_weight, bears, IsWriter, LockSeatFits, ShowsLock}
+use Rattle.vma_lock.specs.Plays.{begin_tells, mark_tells, store_tells, end_tells}
 use Rattle.vma_lock.specs.Seats.{MayEnter}
 use Rattle.vma_lock.proofs.Places.{two_weigh}
 use Rattle.vma_lock.proofs.Journals.{calls_other}
@@ -33,7 +33,7 @@ use Rattle.vma_lock.proofs.Standing.{IsSeat, seat_found, readers_after, readers_
 use Rattle.vma_lock.proofs.Looking.{words_loaded}
 
 -- what the writer knows is so
-pub writer_is : (config : Config) (state : State Entry View) (shows : Shows config state) (seat : ℕ) (view : View)
+pub writer_is : (config : Config) (state : State Entry View) (shows : ShowsLock config state) (seat : ℕ) (view : View)
     → IsSeat config state shows seat view → view.kind ≡ Writes
     → IsWriter shows.core.seq shows.core.slots shows.core.journal shows.made seat view × (view.config ≡ config)
 writer_is config state shows seat view at writes = (
@@ -42,9 +42,9 @@ writer_is config state shows seat view at writes = (
 )
 
 -- no other seat is a writer, so a change of the sequence or of a slot leaves what is so of it
-others_fit : (config : Config) (state : State Entry View) (shows : Shows config state) (seat : ℕ) (view : View) (seq : ℕ) (slots : List SlotState)
+others_fit : (config : Config) (state : State Entry View) (shows : ShowsLock config state) (seat : ℕ) (view : View) (seq : ℕ) (slots : List SlotState)
     → IsSeat config state shows seat view → view.kind ≡ Writes
-    → (other : ℕ) → other ≢ seat → Fits config seq slots shows.core.journal shows.made other (view_at state.views other)
+    → (other : ℕ) → other ≢ seat → LockSeatFits config seq slots shows.core.journal shows.made other (lock_view_at state.views other)
 others_fit config state shows seat view seq slots at writes other apart =
     let fits = shows.seats other in
     record {
@@ -58,16 +58,16 @@ others_fit config state shows seat view seq slots at writes other apart =
     }
 
 -- the writer after a change of the sequence or of a slot that it knows
-writer_fits : (config : Config) (state : State Entry View) (shows : Shows config state) (seat : ℕ) (view new : View) (seq : ℕ) (slots : List SlotState)
+writer_fits : (config : Config) (state : State Entry View) (shows : ShowsLock config state) (seat : ℕ) (view new : View) (seq : ℕ) (slots : List SlotState)
     → IsSeat config state shows seat view → view.kind ≡ Writes
     → new ≡ record view { writer_state = new.writer_state; trace = new.trace }
     → new.writer_state.seq ≡ seq → new.writer_state.slots ≡ slots → new.writer_state.made ≡ shows.made
-    → Fits config seq slots shows.core.journal shows.made seat new
+    → LockSeatFits config seq slots shows.core.journal shows.made seat new
 writer_fits config state shows seat view new seq slots at writes same seq_is slots_are made_is =
     let is = at.fits.writer writes in
     let writer_state = new.writer_state in
     let trace = new.trace in
-    let fits : Fits config seq slots shows.core.journal shows.made seat (record view { writer_state = writer_state; trace = trace }) = record {
+    let fits : LockSeatFits config seq slots shows.core.journal shows.made seat (record view { writer_state = writer_state; trace = trace }) = record {
       settings = at.fits.settings;
       turn = at.fits.turn;
       before = at.fits.before;
@@ -76,13 +76,13 @@ writer_fits config state shows seat view new seq slots at writes same seq_is slo
       free = at.fits.free;
       traced = subst (λ s. IsTraced config trace.added trace.valid s) (sym is.stage) tt;
     } in
-    subst (Fits config seq slots shows.core.journal shows.made seat) (sym same) fits
+    subst (LockSeatFits config seq slots shows.core.journal shows.made seat) (sym same) fits
 
 -- begin
 pub begin_allows : (config : Config) (slots seat : ℕ) (me : Me Entry View) → me.0.kind ≡ Writes → me.0.writer_state.seq % 2 ≡ 0 → me.0.writer_state.seq ≤ 2 ^ 32
-    → Allows (Shows config) slots seat me 0 (λ n. me.0.writer_state.seq + 1) (λ n. begun (step slots 0 (me.0.writer_state.seq + 1) 0 none) me (me.0.writer_state.seq + 1))
+    → Allows (ShowsLock config) slots seat me 0 (λ n. me.0.writer_state.seq + 1) (λ n. begin_tells (step slots 0 (me.0.writer_state.seq + 1) 0 none) me (me.0.writer_state.seq + 1))
 begin_allows config slots seat me writes even room state shows homes found fits =
-    let core : Core = shows.core in
+    let core : LockCore = shows.core in
     let at = seat_found config state shows seat me.0 found in
     let known = writer_is config state shows seat me.0 at writes in
     let is = known.0 in
@@ -113,7 +113,7 @@ slot_known : (slots known : List SlotState) (slot : ℕ) → known ≡ slots →
 slot_known slots known slot same = ap (λ (l : List SlotState). slot_at l slot) same
 
 -- what the mark word is, as the writer knows the slot
-mark_found : (config : Config) (state : State Entry View) (shows : Shows config state) (seat slot : ℕ) (view : View)
+mark_found : (config : Config) (state : State Entry View) (shows : ShowsLock config state) (seat slot : ℕ) (view : View)
     → IsSeat config state shows seat view → view.kind ≡ Writes → slot < slot_count config
     → get_or state.words (mark_place slot) 0 ≡ (slot_at view.writer_state.slots slot).lock_seq * 256 + count_at shows.core.counts slot
 mark_found config state shows seat slot view at writes there =
@@ -126,16 +126,16 @@ mark_found config state shows seat slot view at writes there =
 -- what a try to mark a slot owes at a word: a view that keeps the rule, and what it tells
 abbrev Owes : Config → State Entry View → ℕ → ℕ → ℕ → ℕ → ℕ → Me Entry View → ℕ → Type 0
 Owes config state seat slots slot first second me next =
-    (w : View) × Shows config (stepped state (mark_place slot) next seat me.1 w keeps)
-    × tried (step slots (mark_place slot) first second none) me (get_or state.words (mark_place slot) 0) (w, me.1)
+    (w : View) × ShowsLock config (stepped state (mark_place slot) next seat me.1 w keeps)
+    × mark_tells (step slots (mark_place slot) first second none) me (get_or state.words (mark_place slot) 0) (w, me.1)
 
 -- no reader holds the slot, and it is marked
-mark_owed : (config : Config) (state : State Entry View) (shows : Shows config state) (slots seat slot : ℕ) (me : Me Entry View)
+mark_owed : (config : Config) (state : State Entry View) (shows : ShowsLock config state) (slots seat slot : ℕ) (me : Me Entry View)
     → IsSeat config state shows seat me.0 → me.0.kind ≡ Writes → me.0.writer_state.seq % 2 ≡ 1 → slot < slot_count config
     → get_or state.words (mark_place slot) 0 ≡ (slot_at me.0.writer_state.slots slot).lock_seq * 256
     → Owes config state seat slots slot ((slot_at me.0.writer_state.slots slot).lock_seq * 256) (me.0.writer_state.seq * 256) me (me.0.writer_state.seq * 256)
 mark_owed config state shows slots seat slot me at writes is_open there hit =
-    let core : Core = shows.core in
+    let core : LockCore = shows.core in
     let is = at.fits.writer writes in
     let within : slot < length core.slots = omega (arith, there, shows.slots) in
     let word : ℕ = get_or state.words (mark_place slot) 0 in
@@ -166,12 +166,12 @@ mark_owed config state shows slots seat slot me at writes is_open there hit =
     )
 
 -- readers hold the slot, and nothing changes but what the writer knows of the try
-try_owed : (config : Config) (state : State Entry View) (shows : Shows config state) (slots seat slot : ℕ) (me : Me Entry View)
+try_owed : (config : Config) (state : State Entry View) (shows : ShowsLock config state) (slots seat slot : ℕ) (me : Me Entry View)
     → IsSeat config state shows seat me.0 → me.0.kind ≡ Writes → slot < slot_count config
     → get_or state.words (mark_place slot) 0 ≢ (slot_at me.0.writer_state.slots slot).lock_seq * 256
     → Owes config state seat slots slot ((slot_at me.0.writer_state.slots slot).lock_seq * 256) (me.0.writer_state.seq * 256) me (get_or state.words (mark_place slot) 0)
 try_owed config state shows slots seat slot me at writes there miss =
-    let core : Core = shows.core in
+    let core : LockCore = shows.core in
     let is = at.fits.writer writes in
     let word : ℕ = get_or state.words (mark_place slot) 0 in
     let first : ℕ = (slot_at me.0.writer_state.slots slot).lock_seq * 256 in
@@ -193,9 +193,9 @@ try_owed config state shows slots seat slot me at writes there miss =
 
 -- mark
 pub mark_allows : (config : Config) (slots seat slot : ℕ) (me : Me Entry View) → me.0.kind ≡ Writes → me.0.writer_state.seq % 2 ≡ 1 → slot < slot_count config
-    → Allows (Shows config) slots seat me (mark_place slot)
+    → Allows (ShowsLock config) slots seat me (mark_place slot)
     (λ n. either (eqb n ((slot_at me.0.writer_state.slots slot).lock_seq * 256)) (me.0.writer_state.seq * 256) n)
-    (tried (step slots (mark_place slot) ((slot_at me.0.writer_state.slots slot).lock_seq * 256) (me.0.writer_state.seq * 256) none) me)
+    (mark_tells (step slots (mark_place slot) ((slot_at me.0.writer_state.slots slot).lock_seq * 256) (me.0.writer_state.seq * 256) none) me)
 mark_allows config slots seat slot me writes is_open there state shows homes found fits =
     let at = seat_found config state shows seat me.0 found in
     let word : ℕ = get_or state.words (mark_place slot) 0 in
@@ -209,15 +209,15 @@ mark_allows config slots seat slot me writes is_open there state shows homes fou
 -- store
 pub store_allows : (config : Config) (slots seat slot field word : ℕ) (me : Me Entry View) → me.0.kind ≡ Writes → me.0.writer_state.seq % 2 ≡ 1
     → slot < slot_count config → field < 4 → (slot_at me.0.writer_state.slots slot).lock_seq ≡ me.0.writer_state.seq
-    → Allows (Shows config) slots seat me (field_place slot field) (λ n. word) (λ n. stored (step slots (field_place slot field) word 0 none) me word)
+    → Allows (ShowsLock config) slots seat me (field_place slot field) (λ n. word) (λ n. store_tells (step slots (field_place slot field) word 0 none) me word)
 store_allows config slots seat slot field word me writes is_open there inside marked state shows homes found fits =
-    let core : Core = shows.core in
+    let core : LockCore = shows.core in
     let at = seat_found config state shows seat me.0 found in
     let is = at.fits.writer writes in
     let within : slot < length core.slots = omega (arith, there, shows.slots) in
     let old : SlotState = slot_at core.slots slot in
     let changed : SlotState = record old { row = set old.row field word } in
-    let new : View = store_at me.0 slot field word in
+    let new : View = lock_store_at me.0 slot field word in
     let core_open : core.seq % 2 ≡ 1 = subst (λ n. n % 2 ≡ 1) is.seq_is is_open in
     let core_marked : old.lock_seq ≡ core.seq =
     ap (λ (s : SlotState). s.lock_seq) (sym (slot_known core.slots me.0.writer_state.slots slot is.slots_are)) ∙ marked ∙ is.seq_is in
@@ -238,15 +238,15 @@ store_allows config slots seat slot field word me writes is_open there inside ma
       λ place other few here.
           let same : slot ≡ place = omega arith in
           let fields_same : field ≡ other = omega arith in (
-            ap (λ k. (store_at me.0 k field word, me.1)) same ∙ ap (λ k. (store_at me.0 place k word, me.1)) fields_same,
+            ap (λ k. (lock_store_at me.0 k field word, me.1)) same ∙ ap (λ k. (lock_store_at me.0 place k word, me.1)) fields_same,
             ap (λ (l : List SlotState). length (slot_at l place).row) is.slots_are ∙ shows.facts.rows.wide place,
           ),
     )
 
 -- the writer with its view after an end
-end_fits : (config : Config) (state : State Entry View) (shows : Shows config state) (seat : ℕ) (view : View) (entry : Entry)
+end_fits : (config : Config) (state : State Entry View) (shows : ShowsLock config state) (seat : ℕ) (view : View) (entry : Entry)
     → IsSeat config state shows seat view → view.kind ≡ Writes
-    → Fits config (shows.core.seq + 1) shows.core.slots (shows.core.journal ++ entry ∷ []) shows.made seat (end_at view entry)
+    → LockSeatFits config (shows.core.seq + 1) shows.core.slots (shows.core.journal ++ entry ∷ []) shows.made seat (end_at view entry)
 end_fits config state shows seat view entry at writes =
     let is = at.fits.writer writes in
     let longer : view.seen ++ entry ∷ [] ≡ shows.core.journal ++ entry ∷ [] = ap (λ (l : List Entry). l ++ entry ∷ []) is.seen in
@@ -268,32 +268,32 @@ end_fits config state shows seat view entry at writes =
     }
 
 -- the entry is of no caller whose turn another seat has
-of_no_other : (config : Config) (state : State Entry View) (shows : Shows config state) (seat : ℕ) (view : View) (entry : Entry)
+of_no_other : (config : Config) (state : State Entry View) (shows : ShowsLock config state) (seat : ℕ) (view : View) (entry : Entry)
     → IsSeat config state shows seat view → MayEnter entry view.turn
-    → (other caller : ℕ) → other ≢ seat → (view_at state.views other).turn ≡ Some caller → entry.caller ≢ caller
+    → (other caller : ℕ) → other ≢ seat → (lock_view_at state.views other).turn ≡ Some caller → entry.caller ≢ caller
 of_no_other config state shows seat view entry at (inr above) other caller apart turn same =
     let early : caller < shows.made = ((shows.seats other).turn caller turn).early in
     let most : shows.made ≤ 64 = shows.most in
     omega arith
 of_no_other config state shows seat view entry at (inl mine) other caller apart turn same =
-    let one : bears caller (view_at state.views seat) ≡ 1 =
+    let one : bears caller (lock_view_at state.views seat) ≡ 1 =
     ap (bears caller) at.is ∙ ap (turn_weight caller) mine ∙ cond-true {A = ℕ} (nat_eq entry.caller caller) 1 0 (eq-eqb entry.caller caller same) in
-    let two : bears caller (view_at state.views other) ≡ 1 =
+    let two : bears caller (lock_view_at state.views other) ≡ 1 =
     ap (turn_weight caller) turn ∙ cond-true {A = ℕ} (nat_eq caller caller) 1 0 (eq-eqb caller caller refl) in
     let there : other < length state.views = elim (cases_lt other (length state.views)) [
       | inl within ↦ within
       | inr past ↦
-          let none : None ≡ Some caller = sym (ap (λ (v : View). v.turn) (get_or_past state.views other spent_view past)) ∙ turn in absurd (cc)
+          let none : None ≡ Some caller = sym (ap (λ (v : View). v.turn) (get_or_past state.views other spent_lock_view past)) ∙ turn in absurd (cc)
     ] in
-    let both = two_weigh (bears caller) state.views seat other spent_view at.within there apart in
+    let both = two_weigh (bears caller) state.views seat other spent_lock_view at.within there apart in
     let once = shows.once caller in
     omega arith
 
 -- the seats that are not the writer's, after an end
-others_after_end : (config : Config) (state : State Entry View) (shows : Shows config state) (seat : ℕ) (view : View) (entry : Entry)
+others_after_end : (config : Config) (state : State Entry View) (shows : ShowsLock config state) (seat : ℕ) (view : View) (entry : Entry)
     → IsSeat config state shows seat view → view.kind ≡ Writes → MayEnter entry view.turn
     → (other : ℕ) → other ≢ seat
-    → Fits config (shows.core.seq + 1) shows.core.slots (shows.core.journal ++ entry ∷ []) shows.made other (view_at state.views other)
+    → LockSeatFits config (shows.core.seq + 1) shows.core.slots (shows.core.journal ++ entry ∷ []) shows.made other (lock_view_at state.views other)
 others_after_end config state shows seat view entry at writes may other apart =
     let fits = shows.seats other in
     record {
@@ -314,10 +314,10 @@ others_after_end config state shows seat view entry at writes may other apart =
 pub end_allows : (config : Config) (slots seat : ℕ) (me : Me Entry View) (entry : Entry) → me.0.kind ≡ Writes → me.0.writer_state.seq % 2 ≡ 1
     → entry.reply ≡ (call_step me.0.config (after me.0.config me.0.seen) entry.call).reply
     → Exactly me.0.writer_state.slots (list_after me.0.config (me.0.seen ++ entry ∷ [])) → MayEnter entry me.0.turn
-    → Allows (Shows config) slots seat me 0 (λ n. either (eqb n me.0.writer_state.seq) (me.0.writer_state.seq + 1) n)
-    (ended (step slots 0 me.0.writer_state.seq (me.0.writer_state.seq + 1) (some entry)) me)
+    → Allows (ShowsLock config) slots seat me 0 (λ n. either (eqb n me.0.writer_state.seq) (me.0.writer_state.seq + 1) n)
+    (end_tells (step slots 0 me.0.writer_state.seq (me.0.writer_state.seq + 1) (some entry)) me)
 end_allows config slots seat me entry writes is_open replied exact may state shows homes found fits =
-    let core : Core = shows.core in
+    let core : LockCore = shows.core in
     let at = seat_found config state shows seat me.0 found in
     let known = writer_is config state shows seat me.0 at writes in
     let is = known.0 in
@@ -337,7 +337,7 @@ end_allows config slots seat me entry writes is_open replied exact may state sho
     subst (λ (l : List SlotState). Exactly l (list_after config all)) is.slots_are
     (subst (λ (j : List Entry). Exactly me.0.writer_state.slots (list_after config (j ++ entry ∷ []))) is.seen
     (subst (λ c. Exactly me.0.writer_state.slots (list_after c (me.0.seen ++ entry ∷ []))) known.1 exact)) in
-    let facts : Facts config (after_look (after_end core entry) seat) =
+    let facts : LockFacts config (after_look (after_end core entry) seat) =
     look_keeps config (after_end core entry) seat (end_keeps config core entry shows.facts core_open legal exact_core) in
     let reader_is : record { stage = stage_after (core.seq + 1) core.slots (reader_at core.readers seat).stage; seen = all } ≡ reader_of new =
     ap (λ (r : Reader). record { stage = stage_after (core.seq + 1) core.slots r.stage; seen = all }) at.reader

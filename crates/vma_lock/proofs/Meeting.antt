@@ -5,7 +5,7 @@ use Rattle.std.proofs.lemmas.List.{take-take}
 use Rattle.mm_types.specs.declared.call.Entry.{Entry}
 use Rattle.lock_core.specs.Core.{StartsWith}
 use Rattle.vma_lock.specs.declared.view.View.{View}
-use Rattle.vma_lock.specs.Views.{look_at, joined_at, returned_at}
+use Rattle.vma_lock.specs.Views.{look_at, lock_joined_at, returned_at}
 use Rattle.vma_lock.specs.Plays.{IsSettled, Sees, LooksAt}
 use Rattle.vma_lock.specs.Seats.{is_turn_of, met_turn, greeted_at, Meets}
 use Rattle.vma_lock.proofs.Journals.{starts_length, starts_same}
@@ -17,11 +17,11 @@ greeted reader writer now turn = record reader { seen = now.seen; turn = turn; b
 greeted_is : (reader writer now : View) → now ≡ greeted_at reader writer → now ≡ greeted reader writer now (met_turn writer reader)
 greeted_is reader writer now is = elim (cases_Bool (is_turn_of reader.caller writer.turn)) [
   | inl back ↦
-      let e : now ≡ returned_at reader writer = is ∙ cond-true (is_turn_of reader.caller writer.turn) (returned_at reader writer) (joined_at reader writer) back in
+      let e : now ≡ returned_at reader writer = is ∙ cond-true (is_turn_of reader.caller writer.turn) (returned_at reader writer) (lock_joined_at reader writer) back in
       e ∙ ap (λ (v : View). greeted reader writer v writer.turn) (sym e)
       ∙ ap (greeted reader writer now) (sym (cond-true (is_turn_of reader.caller writer.turn) writer.turn reader.turn back))
   | inr none_back ↦
-      let e : now ≡ joined_at reader writer = is ∙ cond-false (is_turn_of reader.caller writer.turn) (returned_at reader writer) (joined_at reader writer) none_back in
+      let e : now ≡ lock_joined_at reader writer = is ∙ cond-false (is_turn_of reader.caller writer.turn) (returned_at reader writer) (lock_joined_at reader writer) none_back in
       e ∙ ap (λ (v : View). greeted reader writer v reader.turn) (sym e)
       ∙ ap (greeted reader writer now) (sym (cond-false (is_turn_of reader.caller writer.turn) writer.turn reader.turn none_back))
 ]

@@ -9,10 +9,10 @@ use Rattle.lock_core.specs.Words.{lines, flat}
 use Rattle.lock_core.proofs.Opening.{opening_facts}
 use Rattle.atomic_table.specs.Table.{Me, opening}
 use Rattle.vma_lock.specs.declared.view.View.{View}
-use Rattle.vma_lock.specs.Views.{slot_count, view_at, opened_view}
-use Rattle.vma_lock.specs.Words.{padded, sequence_line, table_words}
-use Rattle.vma_lock.specs.Rule.{Fits, Shows}
-use Rattle.vma_lock.specs.Kept.{free_mark, WriterKept}
+use Rattle.vma_lock.specs.Views.{slot_count, lock_view_at, opened_lock_view}
+use Rattle.vma_lock.specs.Words.{padded_slot, sequence_line, table_words}
+use Rattle.vma_lock.specs.Rule.{LockSeatFits, ShowsLock}
+use Rattle.vma_lock.specs.Kept.{free_mark, LockWriterKept}
 
 zeros : (count more : ℕ) → replicate {A = ℕ} (count + more) 0 ≡ replicate {A = ℕ} count 0 ++ replicate {A = ℕ} more 0
 zeros zero more = ap (λ n. replicate {A = ℕ} n 0) (let e : 0 + more ≡ more = omega arith in e)
@@ -20,7 +20,7 @@ zeros (suc count) more =
     ap (λ n. replicate {A = ℕ} n 0) (let e : suc count + more ≡ suc (count + more) = omega arith in e) ∙ ap (λ (l : List ℕ). 0 ∷ l) (zeros count more)
 
 -- the words of slots that were never marked are 0
-free_lines : (slots : ℕ) → flat (map padded (lines (replicate slots free_slot) (replicate slots 0))) ≡ replicate {A = ℕ} (slots * 8) 0
+free_lines : (slots : ℕ) → flat (map padded_slot (lines (replicate slots free_slot) (replicate slots 0))) ≡ replicate {A = ℕ} (slots * 8) 0
 free_lines zero = ap (λ n. replicate {A = ℕ} n 0) (let e : 0 ≡ 0 * 8 = omega arith in e)
 free_lines (suc slots) =
     ap (λ (l : List ℕ). 0 ∷ 0 ∷ 0 ∷ 0 ∷ 0 ∷ 0 ∷ 0 ∷ 0 ∷ l) (free_lines slots)
@@ -41,7 +41,7 @@ opening_marks zero = refl
 opening_marks (suc slots) = ap (λ (l : List ℕ). 0 ∷ l) (opening_marks slots)
 
 -- the first seat, and no other
-opening_fits : (config : Config) (seat : ℕ) → Fits config 2 (replicate (slot_count config) free_slot) [] 0 seat (view_at (opened_view config 0 ∷ []) seat)
+opening_fits : (config : Config) (seat : ℕ) → LockSeatFits config 2 (replicate (slot_count config) free_slot) [] 0 seat (lock_view_at (opened_lock_view config 0 ∷ []) seat)
 opening_fits config zero = record {
   settings = λ spent. refl;
   turn = λ caller is. absurd (cc);
@@ -63,7 +63,7 @@ opening_fits config (suc seat) = record {
 
 -- the rule of a new table
 pub opening_shows : (config : Config) (words : List ℕ) → words ≡ set (replicate {A = ℕ} ((slot_count config + 1) * 8) 0) 0 2
-    → Shows config (opening words [] (opened_view config 0))
+    → ShowsLock config (opening words [] (opened_lock_view config 0))
 opening_shows config words are = record {
   core = opening_core 1 (slot_count config);
   made = 0;
@@ -79,11 +79,11 @@ opening_shows config words are = record {
 }
 
 -- the writer's seat of a new table
-pub opening_kept : (config key : Config) (marks : List ℕ) (words : ℕ) (me : Me Entry View) → me ≡ (opened_view config 0, []) → key ≡ config
+pub opening_kept : (config key : Config) (marks : List ℕ) (words : ℕ) (me : Me Entry View) → me ≡ (opened_lock_view config 0, []) → key ≡ config
     → marks ≡ replicate {A = ℕ} (slot_count config) 0 → words ≡ (slot_count config + 1) * 8
-    → WriterKept key 2 marks None words me
+    → LockWriterKept key 2 marks None words me
 opening_kept config key marks words me is same marks_are sized =
-    subst (WriterKept key 2 marks None words) (sym is) (record {
+    subst (LockWriterKept key 2 marks None words) (sym is) (record {
       kind = refl;
       settings = sym same;
       empty = refl;

@@ -10,8 +10,8 @@ use Rattle.std.proofs.lemmas.List.Sums.{sum_by-set, sum_by_push}
 use Rattle.mm_types.specs.declared.call.Entry.{Entry}
 use Rattle.mm_types.specs.declared.config.Config.{Config}
 use Rattle.lock_core.specs.declared.stage.Stage.TheVariants.{Out}
-use Rattle.lock_core.specs.Core.{Core, Reader, reader_at, gone_reader, held, StartsWith}
-use Rattle.lock_core.specs.Events.{longer, after_split, after_join}
+use Rattle.lock_core.specs.Core.{LockCore, Reader, reader_at, gone_reader, slot_held, StartsWith}
+use Rattle.lock_core.specs.Events.{longer, after_lock_split, after_lock_join}
 use Rattle.lock_core.proofs.Elements.{some_weighs}
 use Rattle.lock_core.proofs.Holding.{starts_longer}
 use Rattle.lock_core.proofs.Keeping.{split_keeps, join_keeps}
@@ -19,10 +19,10 @@ use Rattle.atomic_table.specs.Table.{State, Me, step, Allows, Splits, Joins, kee
 use Rattle.atomic_table.proofs.Lists.{set_else}
 use Rattle.vma_lock.specs.declared.view.SeatKind.TheVariants.{Reads, Writes, Note, Spent}
 use Rattle.vma_lock.specs.declared.view.View.{View}
-use Rattle.vma_lock.specs.Views.{reader_of, view_at, spent_view, split_view, new_reader, after_reader, without_turn, note_of, turn_note, lent_at, heard_at, joined_at, returned_at}
+use Rattle.vma_lock.specs.Views.{reader_of, lock_view_at, spent_lock_view, split_view, new_lock_reader, after_lock_reader, without_turn, note_view, turn_note, lent_at, heard_at, lock_joined_at, returned_at}
 use Rattle.area_rules.specs.Journals.{calls_by}
-use Rattle.vma_lock.specs.Rule.{turn_weight, bears, kind_weight, can_hold, Fits, Shows}
-use Rattle.vma_lock.specs.Plays.{settled}
+use Rattle.vma_lock.specs.Rule.{turn_weight, bears, kind_weight, can_hold, LockSeatFits, ShowsLock}
+use Rattle.vma_lock.specs.Plays.{join_tells}
 use Rattle.vma_lock.proofs.Places.{each_else, each_more}
 use Rattle.vma_lock.proofs.Journals.{starts_self, longer_first, longer_second, longer_whole, calls_between}
 use Rattle.vma_lock.proofs.Standing.{IsSeat, seat_found, readers_after, readers_same, stands_reading}
@@ -31,24 +31,24 @@ use Rattle.vma_lock.proofs.Looking.{words_loaded, settled_seat}
 -- a seat of this table's configuration is split in two
 abbrev AfterSplit : Config → State Entry View → ℕ → View → View → Type 0
 AfterSplit config state seat left right =
-    Shows config (record { words = state.words; homes = state.homes; views = set state.views seat left ++ right ∷ [] })
+    ShowsLock config (record { words = state.words; homes = state.homes; views = set state.views seat left ++ right ∷ [] })
 
 -- what a split has to show
-split_shows : (config : Config) (state : State Entry View) (shows : Shows config state) (seat made : ℕ) (view left right : View)
+split_shows : (config : Config) (state : State Entry View) (shows : ShowsLock config state) (seat made : ℕ) (view left right : View)
     → IsSeat config state shows seat view
     → reader_of left ≡ reader_of view → reader_of right ≡ record { stage = Out; seen = view.seen }
-    → ((other : ℕ) → other ≢ seat → Fits config shows.core.seq shows.core.slots shows.core.journal made other (view_at state.views other))
-    → Fits config shows.core.seq shows.core.slots shows.core.journal made seat left
-    → Fits config shows.core.seq shows.core.slots shows.core.journal made (length state.views) right
+    → ((other : ℕ) → other ≢ seat → LockSeatFits config shows.core.seq shows.core.slots shows.core.journal made other (lock_view_at state.views other))
+    → LockSeatFits config shows.core.seq shows.core.slots shows.core.journal made seat left
+    → LockSeatFits config shows.core.seq shows.core.slots shows.core.journal made (length state.views) right
     → ((caller : ℕ) → sum_by (bears caller) state.views + bears caller left + bears caller right ≤ 1 + bears caller view)
     → can_hold left + can_hold right + shows.made ≤ can_hold view + made → made ≤ 64
     → AfterSplit config state seat left right
 split_shows config state shows seat made view left right at same new_is others fits new_fits turns holders most =
-    let core : Core = shows.core in
+    let core : LockCore = shows.core in
     let views : List View = set state.views seat left in
     let count = length-set state.views seat left in
     record {
-      core = after_split core seat;
+      core = after_lock_split core seat;
       made = made;
       readers = ap (λ (r : Reader). core.readers ++ record { stage = Out; seen = r.seen } ∷ []) at.reader
           ∙ ap (λ (r : Reader). core.readers ++ r ∷ []) (sym new_is)
@@ -57,18 +57,18 @@ split_shows config state shows seat made view left right at same new_is others f
       facts = split_keeps config core seat shows.facts;
       words = shows.words;
       slots = shows.slots;
-      seats = each_more (Fits config core.seq core.slots core.journal made) views right spent_view
-          (each_else (Fits config core.seq core.slots core.journal made) state.views seat left spent_view at.within others fits)
-          (subst (λ n. Fits config core.seq core.slots core.journal made n right) (sym count) new_fits);
+      seats = each_more (LockSeatFits config core.seq core.slots core.journal made) views right spent_lock_view
+          (each_else (LockSeatFits config core.seq core.slots core.journal made) state.views seat left spent_lock_view at.within others fits)
+          (subst (λ n. LockSeatFits config core.seq core.slots core.journal made n right) (sym count) new_fits);
       once = λ caller.
-          let swap = sum_by-set (bears caller) state.views seat left spent_view at.within in
-          let before : bears caller (view_at state.views seat) ≡ bears caller view = ap (bears caller) at.is in
+          let swap = sum_by-set (bears caller) state.views seat left spent_lock_view at.within in
+          let before : bears caller (lock_view_at state.views seat) ≡ bears caller view = ap (bears caller) at.is in
           let more = sum_by_push (bears caller) views right in
           let turn = turns caller in
           omega arith;
       few =
-          let swap = sum_by-set can_hold state.views seat left spent_view at.within in
-          let before : can_hold (view_at state.views seat) ≡ can_hold view = ap can_hold at.is in
+          let swap = sum_by-set can_hold state.views seat left spent_lock_view at.within in
+          let before : can_hold (lock_view_at state.views seat) ≡ can_hold view = ap can_hold at.is in
           let more = sum_by_push can_hold views right in
           let old : sum_by can_hold state.views ≤ shows.made = shows.few in
           omega arith;
@@ -77,10 +77,10 @@ split_shows config state shows seat made view left right at same new_is others f
     }
 
 -- a note of what a seat has seen fits
-note_fits : (config : Config) (state : State Entry View) (shows : Shows config state) (seat number : ℕ) (view : View) (turn : Option ℕ)
+note_fits : (config : Config) (state : State Entry View) (shows : ShowsLock config state) (seat number : ℕ) (view : View) (turn : Option ℕ)
     → IsSeat config state shows seat view → view.config ≡ config
     → ((caller : ℕ) → turn ≡ Some caller → (caller < shows.made) × (calls_by caller shows.core.journal ≡ calls_by caller view.seen))
-    → Fits config shows.core.seq shows.core.slots shows.core.journal shows.made number (split_view view Note view.caller turn)
+    → LockSeatFits config shows.core.seq shows.core.slots shows.core.journal shows.made number (split_view view Note view.caller turn)
 note_fits config state shows seat number view turn at settings seen = record {
   settings = λ spent. settings;
   turn = λ caller is. record { early = (seen caller is).0; all = (seen caller is).1; from_own = refl };
@@ -92,17 +92,17 @@ note_fits config state shows seat number view turn at settings seen = record {
 }
 
 -- a note is made
-pub note_splits : (config : Config) (seat : ℕ) (view : View) → view.kind ≢ Spent → Splits (Shows config) seat view view (note_of view)
+pub note_splits : (config : Config) (seat : ℕ) (view : View) → view.kind ≢ Spent → Splits (ShowsLock config) seat view view (note_view view)
 note_splits config seat view real state shows found =
     let at = seat_found config state shows seat view found in
-    split_shows config state shows seat shows.made view view (note_of view) at refl refl (λ other apart. shows.seats other) at.fits
+    split_shows config state shows seat shows.made view view (note_view view) at refl refl (λ other apart. shows.seats other) at.fits
     (note_fits config state shows seat (length state.views) view None at (at.fits.settings real) (λ caller is. absurd (cc)))
     (λ caller. let once = shows.once caller in omega arith)
     (omega arith) shows.most
 
 -- a seat without its turn fits
-turnless_fits : (config : Config) (state : State Entry View) (shows : Shows config state) (seat : ℕ) (view : View) → IsSeat config state shows seat view
-    → Fits config shows.core.seq shows.core.slots shows.core.journal shows.made seat (without_turn view)
+turnless_fits : (config : Config) (state : State Entry View) (shows : ShowsLock config state) (seat : ℕ) (view : View) → IsSeat config state shows seat view
+    → LockSeatFits config shows.core.seq shows.core.slots shows.core.journal shows.made seat (without_turn view)
 turnless_fits config state shows seat view at = record {
   settings = at.fits.settings;
   turn = λ caller is. absurd (cc);
@@ -121,7 +121,7 @@ turnless_fits config state shows seat view at = record {
 }
 
 -- a note is made that takes the seat's turn along
-pub turn_splits : (config : Config) (seat : ℕ) (view : View) → view.kind ≢ Spent → Splits (Shows config) seat view (without_turn view) (turn_note view)
+pub turn_splits : (config : Config) (seat : ℕ) (view : View) → view.kind ≢ Spent → Splits (ShowsLock config) seat view (without_turn view) (turn_note view)
 turn_splits config seat view real state shows found =
     let at = seat_found config state shows seat view found in
     split_shows config state shows seat shows.made view (without_turn view) (turn_note view) at refl refl (λ other apart. shows.seats other)
@@ -132,11 +132,11 @@ turn_splits config seat view real state shows found =
     (omega arith) shows.most
 
 -- no seat has the turn of a caller whose reader is not made yet
-no_turn_yet : (config : Config) (state : State Entry View) (shows : Shows config state) → sum_by (bears shows.made) state.views ≡ 0
+no_turn_yet : (config : Config) (state : State Entry View) (shows : ShowsLock config state) → sum_by (bears shows.made) state.views ≡ 0
 no_turn_yet config state shows = elim (cases_lt 0 (sum_by (bears shows.made) state.views)) [
   | inl some_turn ↦
-      let seat = some_weighs (bears shows.made) state.views spent_view some_turn in
-      absurd (early (view_at state.views seat.0).turn (λ caller is. ((shows.seats seat.0).turn caller is).early) seat.2)
+      let seat = some_weighs (bears shows.made) state.views spent_lock_view some_turn in
+      absurd (early (lock_view_at state.views seat.0).turn (λ caller is. ((shows.seats seat.0).turn caller is).early) seat.2)
   | inr none_yet ↦ omega arith
 ]
   where
@@ -149,13 +149,13 @@ no_turn_yet config state shows = elim (cases_lt 0 (sum_by (bears shows.made) sta
 
 -- the writer makes a reader
 pub reader_splits : (config : Config) (seat : ℕ) (view : View) → view.kind ≡ Writes → view.writer_state.made < 64
-    → Splits (Shows config) seat view (after_reader view) (new_reader view)
+    → Splits (ShowsLock config) seat view (after_lock_reader view) (new_lock_reader view)
 reader_splits config seat view writes few state shows found =
     let at = seat_found config state shows seat view found in
     let is = at.fits.writer writes in
     let made : ℕ = shows.made in
     let made_is : view.writer_state.made ≡ made = is.made_is in
-    split_shows config state shows seat (made + 1) view (after_reader view) (new_reader view) at refl refl
+    split_shows config state shows seat (made + 1) view (after_lock_reader view) (new_lock_reader view) at refl refl
     (λ other apart. let fits = shows.seats other in record {
       settings = fits.settings;
       turn = λ caller turn. let own = fits.turn caller turn in record { early = omega (arith, own.early); all = own.all; from_own = own.from_own };
@@ -213,44 +213,44 @@ reader_splits config seat view writes few state shows found =
     ]
 
 -- what a join has to show
-join_shows : (config : Config) (state : State Entry View) (shows : Shows config state) (seat other : ℕ) (view taken both : View)
-    → IsSeat config state shows seat view → IsSeat config state shows other taken → ¬ (other ≡ seat) → held taken.stage ≡ None
+join_shows : (config : Config) (state : State Entry View) (shows : ShowsLock config state) (seat other : ℕ) (view taken both : View)
+    → IsSeat config state shows seat view → IsSeat config state shows other taken → ¬ (other ≡ seat) → slot_held taken.stage ≡ None
     → reader_of both ≡ record { stage = view.stage; seen = longer view.seen taken.seen }
-    → Fits config shows.core.seq shows.core.slots shows.core.journal shows.made seat both
+    → LockSeatFits config shows.core.seq shows.core.slots shows.core.journal shows.made seat both
     → ((caller : ℕ) → bears caller both ≤ bears caller view + bears caller taken) → both.kind ≡ view.kind
-    → Shows config (record { words = state.words; homes = state.homes; views = set (set state.views seat both) other spent_view })
+    → ShowsLock config (record { words = state.words; homes = state.homes; views = set (set state.views seat both) other spent_lock_view })
 join_shows config state shows seat other view taken both at there apart free reader_is fits turns kind =
-    let core : Core = shows.core in
+    let core : LockCore = shows.core in
     let middle : List View = set state.views seat both in
     let count = length-set state.views seat both in
-    let still : view_at middle other ≡ taken = get_or-set_other state.views seat other both spent_view apart ∙ there.is in
+    let still : lock_view_at middle other ≡ taken = get_or-set_other state.views seat other both spent_lock_view apart ∙ there.is in
     let inside : other < length middle = omega (arith, there.within, count) in
     record {
-      core = after_join core seat other;
+      core = after_lock_join core seat other;
       made = shows.made;
       readers = ap (λ (r : Reader). set (set core.readers seat (record (reader_at core.readers seat) { seen = longer (reader_at core.readers seat).seen r.seen })) other gone_reader) there.reader
           ∙ ap (λ (r : Reader). set (set core.readers seat (record r { seen = longer r.seen taken.seen })) other gone_reader) at.reader
           ∙ ap (λ (r : Reader). set (set core.readers seat r) other gone_reader) (sym reader_is)
           ∙ ap (λ (l : List Reader). set l other gone_reader) (readers_after config state shows seat both)
-          ∙ sym (map-set reader_of middle other spent_view);
-      facts = join_keeps config core seat other shows.facts (ap (λ (r : Reader). held r.stage) there.reader ∙ free) (λ e. apart (sym e));
+          ∙ sym (map-set reader_of middle other spent_lock_view);
+      facts = join_keeps config core seat other shows.facts (ap (λ (r : Reader). slot_held r.stage) there.reader ∙ free) (λ e. apart (sym e));
       words = shows.words;
       slots = shows.slots;
-      seats = each_else (Fits config core.seq core.slots core.journal shows.made) middle other spent_view spent_view inside
-          (λ k far. each_else (Fits config core.seq core.slots core.journal shows.made) state.views seat both spent_view at.within (λ j else. shows.seats j) fits k)
+      seats = each_else (LockSeatFits config core.seq core.slots core.journal shows.made) middle other spent_lock_view spent_lock_view inside
+          (λ k far. each_else (LockSeatFits config core.seq core.slots core.journal shows.made) state.views seat both spent_lock_view at.within (λ j else. shows.seats j) fits k)
           spent_fits;
       once = λ caller.
-          let first = sum_by-set (bears caller) state.views seat both spent_view at.within in
-          let second = sum_by-set (bears caller) middle other spent_view spent_view inside in
-          let one : bears caller (view_at state.views seat) ≡ bears caller view = ap (bears caller) at.is in
-          let two : bears caller (view_at middle other) ≡ bears caller taken = ap (bears caller) still in
+          let first = sum_by-set (bears caller) state.views seat both spent_lock_view at.within in
+          let second = sum_by-set (bears caller) middle other spent_lock_view spent_lock_view inside in
+          let one : bears caller (lock_view_at state.views seat) ≡ bears caller view = ap (bears caller) at.is in
+          let two : bears caller (lock_view_at middle other) ≡ bears caller taken = ap (bears caller) still in
           let turn = turns caller in
           let old = shows.once caller in
           omega arith;
       few =
-          let first = sum_by-set can_hold state.views seat both spent_view at.within in
-          let second = sum_by-set can_hold middle other spent_view spent_view inside in
-          let one : can_hold (view_at state.views seat) ≡ can_hold view = ap can_hold at.is in
+          let first = sum_by-set can_hold state.views seat both spent_lock_view at.within in
+          let second = sum_by-set can_hold middle other spent_lock_view spent_lock_view inside in
+          let one : can_hold (lock_view_at state.views seat) ≡ can_hold view = ap can_hold at.is in
           let same : can_hold both ≡ can_hold view = ap kind_weight kind in
           let old : sum_by can_hold state.views ≤ shows.made = shows.few in
           omega arith;
@@ -258,7 +258,7 @@ join_shows config state shows seat other view taken both at there apart free rea
       room = shows.room;
     }
   where
-    spent_fits : Fits config shows.core.seq shows.core.slots shows.core.journal shows.made other spent_view
+    spent_fits : LockSeatFits config shows.core.seq shows.core.slots shows.core.journal shows.made other spent_lock_view
     spent_fits = record {
       settings = λ spent. absurd (spent refl);
       turn = λ caller is. absurd (cc);
@@ -270,18 +270,18 @@ join_shows config state shows seat other view taken both at there apart free rea
     }
 
 -- the seat of the second number, before the first took another view
-other_found : (config : Config) (state : State Entry View) (shows : Shows config state) (seat other : ℕ) (both taken : View) → ¬ (other ≡ seat)
+other_found : (config : Config) (state : State Entry View) (shows : ShowsLock config state) (seat other : ℕ) (both taken : View) → ¬ (other ≡ seat)
     → get_elem? (set state.views seat both) other ≡ some taken → IsSeat config state shows other taken
 other_found config state shows seat other both taken apart found =
     seat_found config state shows other taken (sym (set_else state.views seat other both apart) ∙ found)
 
 -- what a seat has seen is a beginning of the journal
-seen_starts : (config : Config) (state : State Entry View) (shows : Shows config state) (seat : ℕ) (view : View)
+seen_starts : (config : Config) (state : State Entry View) (shows : ShowsLock config state) (seat : ℕ) (view : View)
     → IsSeat config state shows seat view → StartsWith shows.core.journal view.seen
 seen_starts config state shows seat view at = subst (λ (r : Reader). StartsWith shows.core.journal r.seen) at.reader (shows.facts.seen seat)
 
 -- the writer takes a note in
-writer_takes : (config : Config) (state : State Entry View) (shows : Shows config state) (seat other : ℕ) (view taken : View)
+writer_takes : (config : Config) (state : State Entry View) (shows : ShowsLock config state) (seat other : ℕ) (view taken : View)
     → IsSeat config state shows seat view → IsSeat config state shows other taken → view.kind ≡ Writes
     → (StartsWith view.seen taken.seen) × (longer view.seen taken.seen ≡ view.seen)
 writer_takes config state shows seat other view taken at there writes =
@@ -291,8 +291,8 @@ writer_takes config state shows seat other view taken at there writes =
     (starts, longer_whole view.seen taken.seen starts)
 
 -- a turn is lent to the writer
-pub lent_joins : (config : Config) (seat other : ℕ) (view note : View) → view.kind ≡ Writes → held note.stage ≡ None
-    → Joins (Shows config) seat view other note (lent_at view note) spent_view
+pub lent_joins : (config : Config) (seat other : ℕ) (view note : View) → view.kind ≡ Writes → slot_held note.stage ≡ None
+    → Joins (ShowsLock config) seat view other note (lent_at view note) spent_lock_view
 lent_joins config seat other view note writes free state shows found apart other_there =
     let at = seat_found config state shows seat view found in
     let there = other_found config state shows seat other (lent_at view note) note apart other_there in
@@ -316,8 +316,8 @@ lent_joins config seat other view note writes free state shows found apart other
     (λ caller. omega arith) refl
 
 -- a note is joined into the writer
-pub heard_joins : (config : Config) (seat other : ℕ) (view note : View) → view.kind ≡ Writes → held note.stage ≡ None
-    → Joins (Shows config) seat view other note (heard_at view note) spent_view
+pub heard_joins : (config : Config) (seat other : ℕ) (view note : View) → view.kind ≡ Writes → slot_held note.stage ≡ None
+    → Joins (ShowsLock config) seat view other note (heard_at view note) spent_lock_view
 heard_joins config seat other view note writes free state shows found apart other_there =
     let at = seat_found config state shows seat view found in
     let there = other_found config state shows seat other (heard_at view note) note apart other_there in
@@ -337,17 +337,17 @@ heard_joins config seat other view note writes free state shows found apart othe
     (λ caller. omega arith) refl
 
 -- a seat is joined into a reader
-pub reader_joins : (config : Config) (seat other : ℕ) (view taken : View) → view.kind ≡ Reads → held taken.stage ≡ None
-    → Joins (Shows config) seat view other taken (joined_at view taken) spent_view
+pub reader_joins : (config : Config) (seat other : ℕ) (view taken : View) → view.kind ≡ Reads → slot_held taken.stage ≡ None
+    → Joins (ShowsLock config) seat view other taken (lock_joined_at view taken) spent_lock_view
 reader_joins config seat other view taken reads free state shows found apart other_there =
     let at = seat_found config state shows seat view found in
-    let there = other_found config state shows seat other (joined_at view taken) taken apart other_there in
+    let there = other_found config state shows seat other (lock_joined_at view taken) taken apart other_there in
     let journal : List Entry = shows.core.journal in
     let mine = seen_starts config state shows seat view at in
     let theirs = seen_starts config state shows other taken there in
     let all = starts_longer journal view.seen taken.seen mine theirs in
     let first = longer_first journal view.seen taken.seen mine theirs in
-    join_shows config state shows seat other view taken (joined_at view taken) at there apart free refl
+    join_shows config state shows seat other view taken (lock_joined_at view taken) at there apart free refl
     (record {
       settings = at.fits.settings;
       turn = λ caller turn.
@@ -363,8 +363,8 @@ reader_joins config seat other view taken reads free state shows found apart oth
     (λ caller. omega arith) refl
 
 -- a note with a turn is joined into a reader
-pub returned_joins : (config : Config) (seat other : ℕ) (view note : View) → view.kind ≡ Reads → held note.stage ≡ None
-    → Joins (Shows config) seat view other note (returned_at view note) spent_view
+pub returned_joins : (config : Config) (seat other : ℕ) (view note : View) → view.kind ≡ Reads → slot_held note.stage ≡ None
+    → Joins (ShowsLock config) seat view other note (returned_at view note) spent_lock_view
 returned_joins config seat other view note reads free state shows found apart other_there =
     let at = seat_found config state shows seat view found in
     let there = other_found config state shows seat other (returned_at view note) note apart other_there in
@@ -390,7 +390,7 @@ returned_joins config seat other view note reads free state shows found apart ot
 
 -- a load tells of the last join
 pub tell_allows : (config : Config) (slots seat : ℕ) (me : Me Entry View)
-    → Allows (Shows config) slots seat me 0 (λ n. n) (settled (step slots 0 0 0 none) me)
+    → Allows (ShowsLock config) slots seat me 0 (λ n. n) (join_tells (step slots 0 0 0 none) me)
 tell_allows config slots seat me state shows homes found fits =
     let at = seat_found config state shows seat me.0 found in (
       me.0,

@@ -4,23 +4,23 @@ use Rattle.mm_types.specs.declared.call.Entry.{Entry}
 use Rattle.mm_types.specs.declared.config.Config.{Config}
 use Rattle.lock_core.specs.declared.stage.SlotState.{SlotState}
 use Rattle.lock_core.specs.declared.stage.Stage.TheVariants.{Out}
-use Rattle.lock_core.specs.Core.{held}
+use Rattle.lock_core.specs.Core.{slot_held}
 use Rattle.atomic_table.specs.Table.{Me}
 use Rattle.vma_lock.specs.declared.view.SeatKind.TheVariants.{Reads, Writes, Note}
 use Rattle.vma_lock.specs.declared.view.View.{View}
 use Rattle.vma_lock.specs.Views.{slot_count}
 
 -- a table has a line of words for the sequence and for each slot of its configuration
-pub record IsSized (config : Config) (words : ℕ) : Type 0 where
+pub record IsVmaTableSized (config : Config) (words : ℕ) : Type 0 where
   pub words_are : words ≡ (slot_count config + 1) * 8
   pub few : config.areas ≤ 65530
 
 -- what a reader's seat knows beside its view
-pub record ReaderKept (caller slot words : ℕ) (me : Me Entry View) : Type 0 where
+pub record LockReaderKept (caller slot words : ℕ) (me : Me Entry View) : Type 0 where
   pub kind : me.0.kind ≡ Reads
   pub empty : me.1 ≡ []
   pub caller_is : me.0.caller ≡ caller
-  pub slot_is : (at : ℕ × ℕ) → held me.0.stage ≡ Some at → at.0 ≡ slot
+  pub slot_is : (at : ℕ × ℕ) → slot_held me.0.stage ≡ Some at → at.0 ≡ slot
   pub within : (slot + 2) * 8 ≤ words
 
 -- what a reader's seat counts: its looks, up to the greatest number of 64 bits, and the entries that it has seen
@@ -40,7 +40,7 @@ abbrev pub free_mark : SlotState → ℕ
 free_mark slot = slot.lock_seq * 256
 
 -- what the writer's seat knows beside its view
-pub record WriterKept (config : Config) (seq : ℕ) (marks : List ℕ) (turn : Option ℕ) (words : ℕ) (me : Me Entry View) : Type 0 where
+pub record LockWriterKept (config : Config) (seq : ℕ) (marks : List ℕ) (turn : Option ℕ) (words : ℕ) (me : Me Entry View) : Type 0 where
   pub kind : me.0.kind ≡ Writes
   pub settings : me.0.config ≡ config
   pub empty : me.1 ≡ []

@@ -5,15 +5,15 @@ use Rattle.mm_types.specs.declared.config.Config.{Config}
 use Rattle.lock_core.specs.declared.stage.SlotState.{SlotState}
 use Rattle.lock_core.specs.declared.stage.Stage.{Stage}
 use Rattle.lock_core.specs.declared.stage.Stage.TheVariants.{Out, Holds, Valid, Gone}
-use Rattle.lock_core.specs.Core.{Core, held, StartsWith}
-use Rattle.lock_core.specs.Facts.{Facts, list_after}
+use Rattle.lock_core.specs.Core.{LockCore, slot_held, StartsWith}
+use Rattle.lock_core.specs.Facts.{LockFacts, list_after}
 use Rattle.lock_core.specs.Rows.{IsRowOf}
 use Rattle.atomic_table.specs.Table.{State}
 use Rattle.vma_lock.specs.declared.view.SeatKind.{SeatKind}
 use Rattle.vma_lock.specs.declared.view.SeatKind.TheVariants.{Reads, Writes, Note, Spent}
 use Rattle.vma_lock.specs.declared.view.SeenAt.{SeenAt}
 use Rattle.vma_lock.specs.declared.view.View.{View}
-use Rattle.vma_lock.specs.Views.{slot_count, reader_of, view_at}
+use Rattle.vma_lock.specs.Views.{slot_count, reader_of, lock_view_at}
 use Rattle.area_rules.specs.Journals.{calls_by}
 use Rattle.vma_lock.specs.Words.{table_words}
 
@@ -62,25 +62,25 @@ pub record IsWriter (seq : ℕ) (slots : List SlotState) (journal : List Entry) 
   pub made_is : view.writer_state.made ≡ made
 
 -- what is so of each seat
-pub record Fits (config : Config) (seq : ℕ) (slots : List SlotState) (journal : List Entry) (made seat : ℕ) (view : View) : Type 0 where
+pub record LockSeatFits (config : Config) (seq : ℕ) (slots : List SlotState) (journal : List Entry) (made seat : ℕ) (view : View) : Type 0 where
   pub settings : view.kind ≢ Spent → view.config ≡ config
   pub turn : (caller : ℕ) → view.turn ≡ Some caller → HasSeenOwn journal made view.seen view.own caller
   pub before : StartsWith view.seen view.before
   pub joined : StartsWith view.seen view.joined
   pub writer : view.kind ≡ Writes → IsWriter seq slots journal made seat view
-  pub free : view.kind ≢ Reads → held view.stage ≡ None
+  pub free : view.kind ≢ Reads → slot_held view.stage ≡ None
   pub traced : IsTraced config view.trace.added view.trace.valid view.stage
 
 -- The words and what the seats know show one state of the protocol, whose readers are the seats. At most one seat has a
 -- caller's turn, and at most 64 seats can hold a slot.
-pub record Shows (config : Config) (state : State Entry View) : Type 0 where
-  pub core : Core
+pub record ShowsLock (config : Config) (state : State Entry View) : Type 0 where
+  pub core : LockCore
   pub made : ℕ
   pub readers : core.readers ≡ map reader_of state.views
-  pub facts : Facts config core
+  pub facts : LockFacts config core
   pub words : state.words ≡ table_words core.seq core.slots core.counts
   pub slots : length core.slots ≡ slot_count config
-  pub seats : (seat : ℕ) → Fits config core.seq core.slots core.journal made seat (view_at state.views seat)
+  pub seats : (seat : ℕ) → LockSeatFits config core.seq core.slots core.journal made seat (lock_view_at state.views seat)
   pub once : (caller : ℕ) → sum_by (bears caller) state.views ≤ 1
   pub few : sum_by can_hold state.views ≤ made
   pub most : made ≤ 64

@@ -6,7 +6,7 @@ use Rattle.mm_types.specs.Config.{slots_for}
 use Rattle.lock_core.specs.declared.stage.SlotState.{SlotState}
 use Rattle.lock_core.specs.declared.stage.Stage.{Stage}
 use Rattle.lock_core.specs.declared.stage.Stage.TheVariants.{Out, Holds, Gone}
-use Rattle.lock_core.specs.Core.{Reader, slot_at, free_slot, held}
+use Rattle.lock_core.specs.Core.{Reader, slot_at, free_slot, slot_held}
 use Rattle.lock_core.specs.Events.{longer}
 use Rattle.vma_lock.specs.declared.view.LockWriterState.{LockWriterState}
 use Rattle.vma_lock.specs.declared.view.SeatKind.{SeatKind}
@@ -46,8 +46,8 @@ abbrev pub no_config : Config
 no_config = record { min = 0; top = 0; limit = 0; areas = 0; files = []; heap = 0 }
 
 -- a seat that was joined into another
-abbrev pub spent_view : View
-spent_view = record {
+abbrev pub spent_lock_view : View
+spent_lock_view = record {
   config = no_config;
   kind = Spent;
   stage = Gone;
@@ -62,12 +62,12 @@ spent_view = record {
 }
 
 -- a seat by its number
-abbrev pub view_at : List View → ℕ → View
-view_at views seat = slice_index_or views seat spent_view
+abbrev pub lock_view_at : List View → ℕ → View
+lock_view_at views seat = slice_index_or views seat spent_lock_view
 
 -- the writer of a new table, after so many readers were made
-abbrev pub opened_view : Config → ℕ → View
-opened_view config made = record {
+abbrev pub opened_lock_view : Config → ℕ → View
+opened_lock_view config made = record {
   config = config;
   kind = Writes;
   stage = Out;
@@ -98,20 +98,20 @@ split_view view kind caller turn = record {
 }
 
 -- a new reader, which has its turn
-abbrev pub new_reader : View → View
-new_reader view = split_view view Reads view.writer_state.made (Some view.writer_state.made)
+abbrev pub new_lock_reader : View → View
+new_lock_reader view = split_view view Reads view.writer_state.made (Some view.writer_state.made)
 
 -- the writer after it made a reader
-abbrev pub after_reader : View → View
-after_reader view = record view { writer_state = record view.writer_state { made = view.writer_state.made + 1 } }
+abbrev pub after_lock_reader : View → View
+after_lock_reader view = record view { writer_state = record view.writer_state { made = view.writer_state.made + 1 } }
 
 -- a seat that gave its turn away
 abbrev pub without_turn : View → View
 without_turn view = record view { turn = None }
 
 -- a note of what a seat has seen
-abbrev pub note_of : View → View
-note_of view = split_view view Note view.caller None
+abbrev pub note_view : View → View
+note_view view = split_view view Note view.caller None
 
 -- the same, with the seat's turn
 abbrev pub turn_note : View → View
@@ -136,7 +136,7 @@ add_at view slot found = record view {
 
 -- whether a seat that stands there holds a slot
 abbrev pub holds_slot : Stage → Bool
-holds_slot stage = is_some (held stage)
+holds_slot stage = is_some (slot_held stage)
 
 -- look
 abbrev pub look_at : View → ℕ → List Entry → Stage → View
@@ -184,21 +184,21 @@ abbrev pub try_at : View → ℕ → ℕ → View
 try_at view slot found = record view { trace = record view.trace { tries = view.trace.tries + 1; tried = Some (slot, found) } }
 
 -- the writer with another slot of a number
-abbrev pub with_slot : View → ℕ → SlotState → View
-with_slot view slot changed = record view { writer_state = record view.writer_state { slots = slice_set view.writer_state.slots slot changed } }
+abbrev pub lock_with_slot : View → ℕ → SlotState → View
+lock_with_slot view slot changed = record view { writer_state = record view.writer_state { slots = slice_set view.writer_state.slots slot changed } }
 
 -- mark: the try succeeded
 abbrev pub mark_at : View → ℕ → ℕ → View
-mark_at view slot found = with_slot (try_at view slot found) slot (record (slot_at view.writer_state.slots slot) { lock_seq = view.writer_state.seq })
+mark_at view slot found = lock_with_slot (try_at view slot found) slot (record (slot_at view.writer_state.slots slot) { lock_seq = view.writer_state.seq })
 
 -- store
-abbrev pub store_at : View → ℕ → ℕ → ℕ → View
-store_at view slot field word = with_slot view slot
+abbrev pub lock_store_at : View → ℕ → ℕ → ℕ → View
+lock_store_at view slot field word = lock_with_slot view slot
     (record (slot_at view.writer_state.slots slot) { row = slice_set (slot_at view.writer_state.slots slot).row field word })
 
 -- four stores: the row has these words
 abbrev pub write_at : View → ℕ → List ℕ → View
-write_at view slot row = with_slot view slot (record (slot_at view.writer_state.slots slot) { row = row })
+write_at view slot row = lock_with_slot view slot (record (slot_at view.writer_state.slots slot) { row = row })
 
 -- end
 abbrev pub end_at : View → Entry → View
@@ -219,8 +219,8 @@ abbrev pub heard_at : View → View → View
 heard_at view note = record view { joined = note.seen }
 
 -- a reader after another seat was joined into it
-abbrev pub joined_at : View → View → View
-joined_at view other = record view {
+abbrev pub lock_joined_at : View → View → View
+lock_joined_at view other = record view {
   seen = longer view.seen other.seen;
   before = view.seen;
   joined = other.seen;

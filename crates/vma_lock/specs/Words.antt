@@ -5,8 +5,8 @@ use Rattle.lock_core.specs.declared.stage.SlotState.{SlotState}
 use Rattle.lock_core.specs.Words.{lines, flat}
 
 -- the words of a slot, filled up to a cache line
-abbrev pub padded : List ℕ → List ℕ
-padded line = line ++ 0 ∷ 0 ∷ 0 ∷ []
+abbrev pub padded_slot : List ℕ → List ℕ
+padded_slot line = line ++ 0 ∷ 0 ∷ 0 ∷ []
 
 -- the sequence, filled up to a cache line
 abbrev pub sequence_line : ℕ → List ℕ
@@ -14,7 +14,7 @@ sequence_line seq = seq ∷ 0 ∷ 0 ∷ 0 ∷ 0 ∷ 0 ∷ 0 ∷ 0 ∷ []
 
 -- the words of a state
 unfoldable pub table_words : ℕ → List SlotState → List ℕ → List ℕ
-table_words seq slots counts = flat (sequence_line seq ∷ map padded (lines slots counts))
+table_words seq slots counts = flat (sequence_line seq ∷ map padded_slot (lines slots counts))
 
 -- the place of a slot's mark word
 abbrev pub mark_place : ℕ → ℕ

@@ -2,8 +2,8 @@ ghost use Rattle.std.specs.Prelude.{◌≡◌, ◌≤◌, ◌<◌, ℕ, IfOk, le
 ghost use Rattle.mm_types.specs.Config.{IsValidConfig};
 ghost use Rattle.vma_lock.specs.declared.seats.ReaderSeat.{ReaderSeat as Reader};
 ghost use Rattle.vma_lock.specs.Opening.{first_words};
-ghost use Rattle.vma_lock.specs.Views.{opened_view, new_reader, after_reader};
-ghost use Rattle.vma_lock.specs.Seats.{config_of, IsOf, Writes, view, sight};
+ghost use Rattle.vma_lock.specs.Views.{opened_lock_view, new_lock_reader, after_lock_reader};
+ghost use Rattle.vma_lock.specs.Seats.{table_config, IsOfVmaTable, WritesVmaTable, lock_view, lock_sight};
 
 use crate::rule::NewReader;
 use crate::seats::{ReaderSeat, VmaTable, WriterSeat};
@@ -26,10 +26,10 @@ impl VmaTable {
     ) -> Result<(VmaTable, WriterSeat, Vec<ReaderSeat>), NoMemory>
         requires config { IsValidConfig config.now }
         requires readers { (1 ≤ readers) × (readers ≤ 64) }
-        ensures table { IfOk result (λ made. config_of made.0 ≡ config.now) }
-        ensures writer { IfOk result (λ made. Writes made.1 made.0 × (sight made.1 ≡ opened_view config.now readers)) }
+        ensures table { IfOk result (λ made. table_config made.0 ≡ config.now) }
+        ensures writer { IfOk result (λ made. WritesVmaTable made.1 made.0 × (lock_sight made.1 ≡ opened_lock_view config.now readers)) }
         ensures seats { IfOk result (λ made. length made.2.items ≡ readers) }
-        ensures fresh { IfOk result (λ made. (caller : ℕ) (seat : Reader) → slice_get made.2.items caller ≡ Some seat → IsOf seat made.0 × (view seat ≡ new_reader (opened_view config.now caller))) }
+        ensures fresh { IfOk result (λ made. (caller : ℕ) (seat : Reader) → slice_get made.2.items caller ≡ Some seat → IsOfVmaTable seat made.0 × (lock_view seat ≡ new_lock_reader (opened_lock_view config.now caller))) }
     {
         let mut words = vec![in alloc; 0; word_count(config)]?;
         words[0] = FIRST_SEQ;
@@ -46,10 +46,10 @@ impl VmaTable {
         requires config { IsValidConfig config.now }
         requires readers { (1 ≤ readers) × (readers ≤ 64) }
         requires words { words.now ≡ first_words config.now }
-        ensures table { IfOk result (λ made. config_of made.0 ≡ config.now) }
-        ensures writer { IfOk result (λ made. Writes made.1 made.0 × (sight made.1 ≡ opened_view config.now readers)) }
+        ensures table { IfOk result (λ made. table_config made.0 ≡ config.now) }
+        ensures writer { IfOk result (λ made. WritesVmaTable made.1 made.0 × (lock_sight made.1 ≡ opened_lock_view config.now readers)) }
         ensures seats { IfOk result (λ made. length made.2.items ≡ readers) }
-        ensures fresh { IfOk result (λ made. (caller : ℕ) (seat : Reader) → slice_get made.2.items caller ≡ Some seat → IsOf seat made.0 × (view seat ≡ new_reader (opened_view config.now caller))) }
+        ensures fresh { IfOk result (λ made. (caller : ℕ) (seat : Reader) → slice_get made.2.items caller ≡ Some seat → IsOfVmaTable seat made.0 × (lock_view seat ≡ new_lock_reader (opened_lock_view config.now caller))) }
     {
         let (table, mut writer) = open(alloc, words, config)?;
         let mut seats = Vec::with_capacity(alloc, readers as usize)?;
@@ -61,11 +61,11 @@ impl VmaTable {
 
     /// The next reader.
     fn new_reader(&self, writer: &mut WriterSeat, caller: u32) -> ReaderSeat
-        requires table { Writes writer.old self.now }
-        requires caller { (caller ≡ (sight writer.old).writer_state.made) × (caller < 64) }
-        ensures table { Writes writer.new self.now × IsOf result self.now }
-        ensures writer { sight writer.new ≡ after_reader (sight writer.old) }
-        ensures view { view result ≡ new_reader (sight writer.old) }
+        requires table { WritesVmaTable writer.old self.now }
+        requires caller { (caller ≡ (lock_sight writer.old).writer_state.made) × (caller < 64) }
+        ensures table { WritesVmaTable writer.new self.now × IsOfVmaTable result self.now }
+        ensures writer { lock_sight writer.new ≡ after_lock_reader (lock_sight writer.old) }
+        ensures view { lock_view result ≡ new_lock_reader (lock_sight writer.old) }
     {
         let version = writer.version();
         let seat = self.table.shared.split_seat::<NewReader>(&mut writer.seat);
@@ -83,8 +83,8 @@ impl VmaTable {
 fn open(alloc: Global, words: &[u64], config: &Config) -> Result<(VmaTable, WriterSeat), NoMemory>
     requires config { IsValidConfig config.now }
     requires words { words.now ≡ first_words config.now }
-    ensures table { IfOk result (λ made. config_of made.0 ≡ config.now) }
-    ensures writer { IfOk result (λ made. Writes made.1 made.0 × (sight made.1 ≡ opened_view config.now 0)) }
+    ensures table { IfOk result (λ made. table_config made.0 ≡ config.now) }
+    ensures writer { IfOk result (λ made. WritesVmaTable made.1 made.0 × (lock_sight made.1 ≡ opened_lock_view config.now 0)) }
 {
     let slots = slots_for(config.areas) as usize;
     let (table, seat) = Table::of_words(alloc, words, config)?;

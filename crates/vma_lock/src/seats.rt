@@ -1,6 +1,6 @@
 ghost use Rattle.std.specs.Arc.{arc_value};
 ghost use Rattle.std.specs.Prelude.{◌≡◌};
-ghost use Rattle.vma_lock.specs.Kept.{IsSized, ReaderKept, ReaderCounts, NoteKept, WriterKept};
+ghost use Rattle.vma_lock.specs.Kept.{IsVmaTableSized, LockReaderKept, ReaderCounts, NoteKept, LockWriterKept};
 
 use crate::rule::LockRule;
 use crate::view::View;
@@ -13,7 +13,7 @@ use std::sync::Arc;
 #[derive(Drop)]
 pub struct VmaTable {
     pub(crate) table: Arc<Table<Entry, View, Config, LockRule, Global>, Global>,
-    pub ghost sized: { IsSized (arc_value table).shared.key (arc_value table).shared.table_id.words },
+    pub ghost sized: { IsVmaTableSized (arc_value table).shared.key (arc_value table).shared.table_id.words },
 }
 
 /// A reader of a table. It can hold one slot.
@@ -26,7 +26,7 @@ pub struct ReaderSeat {
     pub(crate) looks: u64,
     /// How many entries it has seen.
     pub(crate) version: u64,
-    pub ghost kept: { ReaderKept caller slot seat.table_id.words seat.me },
+    pub ghost kept: { LockReaderKept caller slot seat.table_id.words seat.me },
     pub ghost counts: { ReaderCounts looks version seat.me },
 }
 
@@ -48,6 +48,6 @@ pub struct WriterSeat {
     /// Each slot's mark word, without the count of readers.
     pub(crate) marks: Vec<u64>,
     pub(crate) turn: Option<u32>,
-    pub ghost kept: { WriterKept (arc_value table.table).shared.key seq marks.items turn seat.table_id.words seat.me },
+    pub ghost kept: { LockWriterKept (arc_value table.table).shared.key seq marks.items turn seat.table_id.words seat.me },
     pub ghost table_is: { seat.table_id ≡ (arc_value table.table).shared.table_id },
 }

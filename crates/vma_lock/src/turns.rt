@@ -1,9 +1,9 @@
 ghost use Rattle.std.specs.Prelude.{◌≡◌, ◌≢◌, ℕ, length, IfOk, true, None, Some};
 ghost use Rattle.lock_core.specs.declared.stage.Stage.TheVariants.{Out};
 ghost use Rattle.lock_core.specs.Core.{StartsWith};
-ghost use Rattle.vma_lock.specs.Views.{without_turn, lent_at, heard_at, joined_at, returned_at};
+ghost use Rattle.vma_lock.specs.Views.{without_turn, lent_at, heard_at, lock_joined_at, returned_at};
 ghost use Rattle.area_rules.specs.Journals.{calls_by};
-ghost use Rattle.vma_lock.specs.Seats.{config_of, IsOf, Writes, view, seen, stage, HasTurn, sight, journal, IsClosed, is_turn_of, met_turn, kept_turn, greeted_at, Meets};
+ghost use Rattle.vma_lock.specs.Seats.{table_config, IsOfVmaTable, WritesVmaTable, lock_view, seen, stage, HasTurn, lock_sight, journal, HasNoOpenCall, is_turn_of, met_turn, kept_turn, greeted_at, Meets};
 
 use crate::rule::{Heard, Joined, Lent, Noted, Returned, Settled, TurnNoted};
 use crate::seats::{ReaderSeat, VmaTable, WriterSeat};
@@ -20,7 +20,7 @@ impl WriterSeat {
 
     /// Another handle of the writer's table.
     pub fn table(&self) -> Result<VmaTable, NoMemory>
-        ensures { IfOk result (λ table. Writes self.now table × (config_of table ≡ (sight self.now).config)) }
+        ensures { IfOk result (λ table. WritesVmaTable self.now table × (table_config table ≡ (lock_sight self.now).config)) }
     {
         Ok(VmaTable {
             table: Arc::try_clone(&self.table.table)?,
@@ -32,15 +32,15 @@ impl VmaTable {
     /// Lends a reader's turn to the writer. The writer learns that the reader has seen a beginning of the journal that
     /// has every entry of its caller.
     pub fn lend(&self, writer: &mut WriterSeat, seat: &mut ReaderSeat)
-        requires tables { Writes writer.old self.now × IsOf seat.old self.now }
-        requires closed { IsClosed writer.old }
+        requires tables { WritesVmaTable writer.old self.now × IsOfVmaTable seat.old self.now }
+        requires closed { HasNoOpenCall writer.old }
         requires turn { HasTurn seat.old }
-        requires free { (sight writer.old).turn ≡ None }
-        ensures tables { Writes writer.new self.now × IsOf seat.new self.now }
-        ensures seat { view seat.new ≡ without_turn (view seat.old) }
-        ensures writer { sight writer.new ≡ lent_at (sight writer.old) (view seat.old) }
+        requires free { (lock_sight writer.old).turn ≡ None }
+        ensures tables { WritesVmaTable writer.new self.now × IsOfVmaTable seat.new self.now }
+        ensures seat { lock_view seat.new ≡ without_turn (lock_view seat.old) }
+        ensures writer { lock_sight writer.new ≡ lent_at (lock_sight writer.old) (lock_view seat.old) }
         ensures seen { StartsWith (journal writer.old) (seen seat.old) }
-        ensures own { calls_by (view seat.old).caller (journal writer.old) ≡ calls_by (view seat.old).caller (seen seat.old) }
+        ensures own { calls_by (lock_view seat.old).caller (journal writer.old) ≡ calls_by (lock_view seat.old).caller (seen seat.old) }
     {
         let shared = &self.table.shared;
         let note = shared.split_seat::<TurnNoted>(&mut seat.seat);
@@ -52,13 +52,13 @@ impl VmaTable {
     /// A reader meets the writer: it has then seen exactly the writer's journal, and has its turn again if the writer
     /// had it.
     pub fn meet(&self, writer: &mut WriterSeat, seat: &mut ReaderSeat)
-        requires tables { Writes writer.old self.now × IsOf seat.old self.now }
-        ensures tables { Writes writer.new self.now × IsOf seat.new self.now }
-        ensures seat { Meets (view seat.old) (journal writer.old) (met_turn (sight writer.old) (view seat.old)) (view seat.new) }
-        ensures writer { sight writer.new ≡ record (sight writer.old) { turn = kept_turn (sight writer.old) (view seat.old); joined = journal writer.old } }
+        requires tables { WritesVmaTable writer.old self.now × IsOfVmaTable seat.old self.now }
+        ensures tables { WritesVmaTable writer.new self.now × IsOfVmaTable seat.new self.now }
+        ensures seat { Meets (lock_view seat.old) (journal writer.old) (met_turn (lock_sight writer.old) (lock_view seat.old)) (lock_view seat.new) }
+        ensures writer { lock_sight writer.new ≡ record (lock_sight writer.old) { turn = kept_turn (lock_sight writer.old) (lock_view seat.old); joined = journal writer.old } }
         ensures seen { StartsWith (journal writer.old) (seen seat.old) }
-        ensures own { is_turn_of (view seat.old).caller (sight writer.old).turn ≢ true
-            → (caller : ℕ) → (view seat.old).turn ≡ Some caller → calls_by caller (journal writer.old) ≡ calls_by caller (seen seat.old) }
+        ensures own { is_turn_of (lock_view seat.old).caller (lock_sight writer.old).turn ≢ true
+            → (caller : ℕ) → (lock_view seat.old).turn ≡ Some caller → calls_by caller (journal writer.old) ≡ calls_by caller (seen seat.old) }
     {
         self.greet(writer, seat);
         self.look(seat);
@@ -67,10 +67,10 @@ impl VmaTable {
 
     /// The writer shows a reader what it has seen, and gives its turn back if it has it.
     fn greet(&self, writer: &mut WriterSeat, seat: &mut ReaderSeat)
-        requires { Writes writer.old self.now × IsOf seat.old self.now }
-        ensures tables { Writes writer.new self.now × IsOf seat.new self.now }
-        ensures seat { view seat.new ≡ greeted_at (view seat.old) (sight writer.old) }
-        ensures writer { sight writer.new ≡ record (sight writer.old) { turn = kept_turn (sight writer.old) (view seat.old) } }
+        requires { WritesVmaTable writer.old self.now × IsOfVmaTable seat.old self.now }
+        ensures tables { WritesVmaTable writer.new self.now × IsOfVmaTable seat.new self.now }
+        ensures seat { lock_view seat.new ≡ greeted_at (lock_view seat.old) (lock_sight writer.old) }
+        ensures writer { lock_sight writer.new ≡ record (lock_sight writer.old) { turn = kept_turn (lock_sight writer.old) (lock_view seat.old) } }
     {
         if is_turn_of(writer.turn, seat.caller) {
             self.give_back_turn(writer, seat);
@@ -81,10 +81,10 @@ impl VmaTable {
 
     /// The writer shows a reader what it has seen, and gives its turn away.
     fn give_back_turn(&self, writer: &mut WriterSeat, seat: &mut ReaderSeat)
-        requires { Writes writer.old self.now × IsOf seat.old self.now }
-        ensures tables { Writes writer.new self.now × IsOf seat.new self.now }
-        ensures seat { view seat.new ≡ returned_at (view seat.old) (sight writer.old) }
-        ensures writer { sight writer.new ≡ without_turn (sight writer.old) }
+        requires { WritesVmaTable writer.old self.now × IsOfVmaTable seat.old self.now }
+        ensures tables { WritesVmaTable writer.new self.now × IsOfVmaTable seat.new self.now }
+        ensures seat { lock_view seat.new ≡ returned_at (lock_view seat.old) (lock_sight writer.old) }
+        ensures writer { lock_sight writer.new ≡ without_turn (lock_sight writer.old) }
     {
         let shared = &self.table.shared;
         writer.turn = None;
@@ -95,10 +95,10 @@ impl VmaTable {
 
     /// The writer shows a reader what it has seen.
     fn show_reader(&self, writer: &mut WriterSeat, seat: &mut ReaderSeat)
-        requires { Writes writer.old self.now × IsOf seat.old self.now }
-        ensures tables { Writes writer.new self.now × IsOf seat.new self.now }
-        ensures seat { view seat.new ≡ joined_at (view seat.old) (sight writer.old) }
-        ensures writer { sight writer.new ≡ sight writer.old }
+        requires { WritesVmaTable writer.old self.now × IsOfVmaTable seat.old self.now }
+        ensures tables { WritesVmaTable writer.new self.now × IsOfVmaTable seat.new self.now }
+        ensures seat { lock_view seat.new ≡ lock_joined_at (lock_view seat.old) (lock_sight writer.old) }
+        ensures writer { lock_sight writer.new ≡ lock_sight writer.old }
     {
         let shared = &self.table.shared;
         let note = shared.split_seat::<Noted>(&mut writer.seat);
@@ -108,10 +108,10 @@ impl VmaTable {
 
     /// The writer learns what a reader has seen, which is a beginning of the journal.
     fn learn_from_reader(&self, writer: &mut WriterSeat, seat: &mut ReaderSeat)
-        requires { Writes writer.old self.now × IsOf seat.old self.now }
-        ensures tables { Writes writer.new self.now × IsOf seat.new self.now }
-        ensures seat { view seat.new ≡ view seat.old }
-        ensures writer { sight writer.new ≡ heard_at (sight writer.old) (view seat.old) }
+        requires { WritesVmaTable writer.old self.now × IsOfVmaTable seat.old self.now }
+        ensures tables { WritesVmaTable writer.new self.now × IsOfVmaTable seat.new self.now }
+        ensures seat { lock_view seat.new ≡ lock_view seat.old }
+        ensures writer { lock_sight writer.new ≡ heard_at (lock_sight writer.old) (lock_view seat.old) }
         ensures seen { StartsWith (journal writer.old) (seen seat.old) }
     {
         let shared = &self.table.shared;
@@ -122,13 +122,13 @@ impl VmaTable {
 
     /// Joins another reader into one, which has then seen the longer of both lists. A turn that the other has ends.
     pub fn join(&self, seat: &mut ReaderSeat, other: ReaderSeat)
-        requires tables { IsOf seat.old self.now × IsOf other self.now }
+        requires tables { IsOfVmaTable seat.old self.now × IsOfVmaTable other self.now }
         requires free { stage other ≡ Out }
-        ensures table { IsOf seat.new self.now }
-        ensures view { view seat.new ≡ joined_at (view seat.old) (view other) }
+        ensures table { IsOfVmaTable seat.new self.now }
+        ensures view { lock_view seat.new ≡ lock_joined_at (lock_view seat.old) (lock_view other) }
         ensures old { StartsWith (seen seat.new) (seen seat.old) }
         ensures other { StartsWith (seen seat.new) (seen other) }
-        ensures own { (caller : ℕ) → (view seat.old).turn ≡ Some caller → calls_by caller (seen seat.new) ≡ calls_by caller (seen seat.old) }
+        ensures own { (caller : ℕ) → (lock_view seat.old).turn ≡ Some caller → calls_by caller (seen seat.new) ≡ calls_by caller (seen seat.old) }
     {
         let shared = &self.table.shared;
         let ReaderSeat {

@@ -4,8 +4,8 @@ ghost use Rattle.lock_core.specs.Core.{slot_at};
 ghost use Rattle.lock_core.specs.Facts.{list_after};
 ghost use Rattle.lock_core.specs.Rows.{Exactly};
 ghost use Rattle.vma_lock.specs.Kept.{free_mark};
-ghost use Rattle.vma_lock.specs.Views.{begin_at, try_at, mark_at, store_at, write_at, end_at};
-ghost use Rattle.vma_lock.specs.Seats.{slots_of, Writes, sight, journal, slots, IsOpen, IsClosed, IsMarked, MayEnter};
+ghost use Rattle.vma_lock.specs.Views.{begin_at, try_at, mark_at, lock_store_at, write_at, end_at};
+ghost use Rattle.vma_lock.specs.Seats.{slots_of, WritesVmaTable, lock_sight, journal, slots, HasOpenCall, HasNoOpenCall, IsMarked, MayEnter};
 
 use crate::rule::{Begun, Ended, Stored, Tried};
 use crate::seats::{VmaTable, WriterSeat};
@@ -21,13 +21,13 @@ pub struct ReadersLeft {
 impl VmaTable {
     /// Begins a call: the sequence becomes odd. The journal is legal then, and the rows are exactly its list.
     pub fn begin(&self, writer: &mut WriterSeat)
-        requires table { Writes writer.old self.now }
-        requires closed { IsClosed writer.old }
+        requires table { WritesVmaTable writer.old self.now }
+        requires closed { HasNoOpenCall writer.old }
         requires room { length (journal writer.old) < 2 ^ 31 }
-        ensures table { Writes writer.new self.now }
-        ensures view { sight writer.new ≡ begin_at (sight writer.old) }
-        ensures legal { IsLegalJournal (sight writer.old).config (journal writer.old) }
-        ensures exact { Exactly (slots writer.old) (list_after (sight writer.old).config (journal writer.old)) }
+        ensures table { WritesVmaTable writer.new self.now }
+        ensures view { lock_sight writer.new ≡ begin_at (lock_sight writer.old) }
+        ensures legal { IsLegalJournal (lock_sight writer.old).config (journal writer.old) }
+        ensures exact { Exactly (slots writer.old) (list_after (lock_sight writer.old).config (journal writer.old)) }
     {
         writer.seq += 1;
         let seq = writer.seq;
@@ -36,14 +36,14 @@ impl VmaTable {
 
     /// Marks a slot in the open call, unless readers hold it: so many as are told.
     pub fn try_mark(&self, writer: &mut WriterSeat, slot: Slot) -> Result<(), ReadersLeft>
-        requires table { Writes writer.old self.now }
-        requires open { IsOpen writer.old }
+        requires table { WritesVmaTable writer.old self.now }
+        requires open { HasOpenCall writer.old }
         requires slot { slot.0 < slots_of self.now }
-        ensures table { Writes writer.new self.now }
+        ensures table { WritesVmaTable writer.new self.now }
         ensures view { MatchResult result
-            (λ _. sight writer.new ≡ mark_at (sight writer.old) slot.0 (free_mark (slot_at (slots writer.old) slot.0)))
+            (λ _. lock_sight writer.new ≡ mark_at (lock_sight writer.old) slot.0 (free_mark (slot_at (slots writer.old) slot.0)))
             (λ left. (0 < left.readers) × (left.readers < 256)
-            × (sight writer.new ≡ try_at (sight writer.old) slot.0 (free_mark (slot_at (slots writer.old) slot.0) + left.readers))) }
+            × (lock_sight writer.new ≡ try_at (lock_sight writer.old) slot.0 (free_mark (slot_at (slots writer.old) slot.0) + left.readers))) }
     {
         let place = mark_place(slot.0);
         let free = writer.marks[slot.0 as usize];
@@ -64,12 +64,12 @@ impl VmaTable {
 
     /// Writes the row of a slot that the open call marked.
     pub fn write_row(&self, writer: &mut WriterSeat, slot: Slot, row: [u64; 4])
-        requires table { Writes writer.old self.now }
-        requires open { IsOpen writer.old }
+        requires table { WritesVmaTable writer.old self.now }
+        requires open { HasOpenCall writer.old }
         requires slot { slot.0 < slots_of self.now }
         requires marked { IsMarked writer.old slot.0 }
-        ensures table { Writes writer.new self.now }
-        ensures view { sight writer.new ≡ write_at (sight writer.old) slot.0 row }
+        ensures table { WritesVmaTable writer.new self.now }
+        ensures view { lock_sight writer.new ≡ write_at (lock_sight writer.old) slot.0 row }
     {
         let [first, second, third, fourth] = row;
         self.store(writer, slot, 0, first);
@@ -80,13 +80,13 @@ impl VmaTable {
 
     /// Writes a word of the row of a slot that the open call marked.
     fn store(&self, writer: &mut WriterSeat, slot: Slot, field: usize, word: u64)
-        requires table { Writes writer.old self.now }
-        requires open { IsOpen writer.old }
+        requires table { WritesVmaTable writer.old self.now }
+        requires open { HasOpenCall writer.old }
         requires slot { slot.0 < slots_of self.now }
         requires field { field < 4 }
         requires marked { IsMarked writer.old slot.0 }
-        ensures table { Writes writer.new self.now }
-        ensures view { sight writer.new ≡ store_at (sight writer.old) slot.0 field word }
+        ensures table { WritesVmaTable writer.new self.now }
+        ensures view { lock_sight writer.new ≡ lock_store_at (lock_sight writer.old) slot.0 field word }
         ensures wide { length (slot_at (slots writer.old) slot.0).row ≡ 4 }
     {
         let place = field_place(slot.0, field);
@@ -97,13 +97,13 @@ impl VmaTable {
 
     /// Ends the open call with its entry: the sequence becomes even, and the journal has one entry more.
     pub fn end(&self, writer: &mut WriterSeat, entry: Entry)
-        requires table { Writes writer.old self.now }
-        requires open { IsOpen writer.old }
-        requires reply { entry.reply ≡ (step (sight writer.old).config (after (sight writer.old).config (journal writer.old)) entry.call).reply }
-        requires exact { Exactly (slots writer.old) (list_after (sight writer.old).config (journal writer.old ++ entry ∷ [])) }
-        requires turn { MayEnter entry (sight writer.old).turn }
-        ensures table { Writes writer.new self.now }
-        ensures view { sight writer.new ≡ end_at (sight writer.old) entry }
+        requires table { WritesVmaTable writer.old self.now }
+        requires open { HasOpenCall writer.old }
+        requires reply { entry.reply ≡ (step (lock_sight writer.old).config (after (lock_sight writer.old).config (journal writer.old)) entry.call).reply }
+        requires exact { Exactly (slots writer.old) (list_after (lock_sight writer.old).config (journal writer.old ++ entry ∷ [])) }
+        requires turn { MayEnter entry (lock_sight writer.old).turn }
+        ensures table { WritesVmaTable writer.new self.now }
+        ensures view { lock_sight writer.new ≡ end_at (lock_sight writer.old) entry }
     {
         let seq = writer.seq;
         self.table

@@ -19,7 +19,7 @@ use Rattle.mm_space.specs.Closing.{ClosedView}
 use Rattle.output.specs.Output.{item_text, listed_text, maps_text, told_by}
 use Rattle.vma_replay.specs.Forks.{forks_of}
 use Rattle.vma_replay.specs.Internal.Families.{IsFamily, IsForkOf}
-use Rattle.output.specs.Giving.{IsCut, Prints}
+use Rattle.output.specs.Giving.{IsCutOff, Prints}
 use Rattle.vma_replay.specs.Internal.Giving.{GivesAnOutput}
 use Rattle.output.specs.Telling.{told_in_turn}
 use Rattle.vma_replay.specs.Replaying.{IsRunOf, history_of_run}
@@ -94,8 +94,8 @@ turns_told files lines turns items areas shown is same =
     ∙ ap (λ (l : List Record). told_by (item_text files) lines [] items ++ maps_text files l) same
 
 -- into an empty piece
-pub cut_empty : (old new : SinkView) (held text : List ℕ) (error : PrintError) → held ≡ [] → IsCut old new held text error → IsCut old new [] text error
-cut_empty old new held text error none cut = subst (λ (h : List ℕ). IsCut old new h text error) none cut
+pub cut_empty : (old new : SinkView) (held text : List ℕ) (error : PrintError) → held ≡ [] → IsCutOff old new held text error → IsCutOff old new [] text error
+cut_empty old new held text error none cut = subst (λ (h : List ℕ). IsCutOff old new h text error) none cut
 
 pub prints_empty : (old new : SinkView) (held holds text : List ℕ) → held ≡ [] → Prints old new held holds text → Prints old new [] holds text
 prints_empty old new held holds text none printed = subst (λ (h : List ℕ). Prints old new h holds text) none printed
@@ -125,7 +125,7 @@ run_told mode trace run lines turns shown of_trace is same =
     ap (λ (l : List TraceLine). told_in_turn (item_text trace.config.files) l turns ++ maps_text trace.config.files shown) of_trace
     ∙ turns_told trace.config.files trace.lines turns (history_of_run mode trace run) run.list shown is same
 
-pub cut_whole : (old new : SinkView) (held first second whole : List ℕ) (error : PrintError) → first ++ second ≡ whole → IsCut old new held first error
-    → IsCut old new held whole error
+pub cut_whole : (old new : SinkView) (held first second whole : List ℕ) (error : PrintError) → first ++ second ≡ whole → IsCutOff old new held first error
+    → IsCutOff old new held whole error
 cut_whole old new held first second whole error all cut =
-    subst (λ (t : List ℕ). IsCut old new held t error) all (cut_more old new held first second error cut)
+    subst (λ (t : List ℕ). IsCutOff old new held t error) all (cut_more old new held first second error cut)

@@ -28,7 +28,7 @@ use Rattle.mm_fork.proofs.Spaces.{inherited_space}
 use Rattle.history.proofs.OneSpace.{child_is_trace, child_is_alone, child_lines_name_none}
 use Rattle.vma_drive.specs.Sharing.{AreOfOneThread, NameNoLine}
 use Rattle.vma_replay.specs.declared.forks.Fork.{Fork}
-use Rattle.vma_replay.specs.Internal.Families.{IsOfParent, IsForkOf, AreRunsOfChildren}
+use Rattle.vma_replay.specs.Internal.Families.{IsParentJournal, IsForkOf, AreRunsOfChildren}
 use Rattle.vma_replay.specs.Replaying.{IsRunOfChild}
 
 -- what stands in the front of a list stands in the list
@@ -78,7 +78,7 @@ pub record CanRun (config : Config) (own : List TraceLine) (before : List Entry)
   pub one_thread : AreOfOneThread own
   pub alone : NameNoLine own
 
-can_run_at : (trace : Trace) (parent : List Entry) (fork : Fork) → IsTraceValue trace → IsOfParent trace.config parent → IsForkOf trace.lines parent fork
+can_run_at : (trace : Trace) (parent : List Entry) (fork : Fork) → IsTraceValue trace → IsParentJournal trace.config parent → IsForkOf trace.lines parent fork
     → CanRun trace.config (child_lines trace.lines fork.child) (inherited parent fork.version)
 can_run_at trace parent fork value bears forks =
     let own : IsTraceValue (child_trace trace fork.child) = child_is_trace trace fork.child value forks.child in
@@ -92,7 +92,7 @@ can_run_at trace parent fork value bears forks =
     }
 
 pub can_run : (trace : Trace) (parent : List Entry) (fork : Fork) (own : List TraceLine) (before : List Entry) → IsTraceValue trace
-    → IsOfParent trace.config parent → IsForkOf trace.lines parent fork → own ≡ child_lines trace.lines fork.child
+    → IsParentJournal trace.config parent → IsForkOf trace.lines parent fork → own ≡ child_lines trace.lines fork.child
     → before ≡ inherited parent fork.version → CanRun trace.config own before
 can_run trace parent fork own before value bears forks is begun =
     subst (λ (o : List TraceLine). CanRun trace.config o before) (sym is)

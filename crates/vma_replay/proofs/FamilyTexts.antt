@@ -1,5 +1,5 @@
 -- Serves `printing.rt` and `family_given`: the texts of a parent and of its children.
-use Rattle.std.proofs.Common.{ℕ, ◌≡◌, ◌+◌, ◌-◌, ◌<◌, ◌∙◌, refl, sym, ap, subst, List, [], ◌∷◌, ◌++◌, append_assoc, length, take, drop, slice_get, get_or, nat_lt, false, Some, arith}
+use Rattle.std.proofs.Common.{ℕ, ◌≡◌, ◌+◌, ◌-◌, ◌<◌, ◌∙◌, refl, sym, ap, subst, List, [], ◌∷◌, ◌++◌, append_assoc, length, take, drop, zip, flat_map, slice_get, get_or, nat_lt, false, Some, arith}
 use Rattle.std.proofs.lemmas.List.{drop_more, length-drop, take_all}
 use Rattle.std.proofs.lemmas.Option.{get_or_from_slice_get, slice_get-get_or, slice_get_read, slice_get_within}
 use Rattle.std.proofs.lemmas.Bool.{lt-ltb}
@@ -25,9 +25,9 @@ use Rattle.vma_replay.specs.ChildTexts.{child_line, child_text}
 use Rattle.vma_replay.specs.Forks.{forks_of}
 use Rattle.vma_replay.specs.Internal.Families.{AreRunsOfChildren, IsFamily, text_of_child, text_of_children, text_of_family}
 use Rattle.vma_replay.specs.Internal.Giving.{BeginsAsSerial, GivesAnOutput}
-use Rattle.vma_replay.specs.Replaying.{AreChildrenGiven, IsRunOf, IsRunOfChild, history_of_run}
+use Rattle.vma_replay.specs.Replaying.{IsRunOf, IsRunOfChild, history_of_run, text_of_run}
 use Rattle.vma_replay.proofs.ChildSpaces.{inherited_count, run_at, runs_count}
-use Rattle.vma_replay.proofs.RunTexts.{given_for_run, list_of_run, serial_is}
+use Rattle.vma_replay.proofs.RunTexts.{list_of_run, run_is_legal, serial_is}
 
 -- the journal of a child's history is its own
 pub child_made : (trace : Trace) (parent : List Entry) (fork : Fork) (run : ClosedView) → (is : IsRunOfChild trace parent fork run)
@@ -50,18 +50,14 @@ child_told trace parent fork run is =
     ap (λ (areas : List Record). child_line fork ++ listed_text trace.config.files (child_lines trace.lines fork.child) items areas)
     (is.list ∙ ap (list_after trace.config) whole)
 
-children_given : (trace : Trace) (parent : List Entry) (forks : List Fork) (runs : List ClosedView) → AreRunsOfChildren trace parent forks runs
-    → AreChildrenGiven trace parent forks runs (text_of_children trace forks runs)
-children_given trace parent [] [] are = refl
-children_given trace parent [] (run ∷ runs) are = absurd are
-children_given trace parent (fork ∷ forks) [] are = absurd are
-children_given trace parent (fork ∷ forks) (run ∷ runs) are = (
-  text_of_child trace fork run,
-  text_of_children trace forks runs,
-  refl,
-  (are.0, child_told trace parent fork run are.0),
-  children_given trace parent forks runs are.1,
-)
+children_told : (trace : Trace) (parent : List Entry) (forks : List Fork) (runs : List ClosedView) → AreRunsOfChildren trace parent forks runs
+    → text_of_children trace forks runs ≡ flat_map (text_of_run trace parent) (zip forks runs)
+children_told trace parent [] [] are = refl
+children_told trace parent [] (run ∷ runs) are = absurd are
+children_told trace parent (fork ∷ forks) [] are = absurd are
+children_told trace parent (fork ∷ forks) (run ∷ runs) are =
+    ap (λ (t : List ℕ). t ++ text_of_children trace forks runs) (child_told trace parent fork run are.0)
+    ∙ ap (λ (t : List ℕ). text_of_run trace parent (fork, run) ++ t) (children_told trace parent forks runs are.1)
 
 -- the parent's text ends with the list of its run
 parent_told : (mode : Mode) (trace : Trace) (run : ClosedView) → IsRunOf mode trace run → run.list ≡ list_after trace.config run.journal
@@ -89,19 +85,19 @@ family_at mode trace parent children value is list are =
     let items : List Item = history_of_run mode (parent_trace trace) parent in
     let forks : List Fork = forks_of (parent_lines trace.lines) items in
     let first : List ℕ = output_text trace.config (parent_lines trace.lines) items in
-    let rest : List ℕ = text_of_children trace forks children in
+    let rest : List ℕ = flat_map (text_of_run trace parent.journal) (zip forks children) in
     let told : listed_text trace.config.files (parent_lines trace.lines) items parent.list ≡ first =
     parent_told mode (parent_trace trace) parent is list in
-    let whole : text_of_family trace items forks (parent ∷ children) ≡ first ++ rest = ap (λ (t : List ℕ). t ++ rest) told in (
+    let whole : text_of_family trace items forks (parent ∷ children) ≡ first ++ rest =
+    ap (λ (t : List ℕ). t ++ text_of_children trace forks children) told
+    ∙ ap (λ (t : List ℕ). first ++ t) (children_told trace parent.journal forks children are) in (
       record {
         parent = parent;
         children = children;
-        first = first;
-        rest = rest;
         runs_are = refl;
+        parent_is = run_is_legal mode (parent_trace trace) parent (parent_is_trace trace value) is list;
+        children_are = are;
         text_is = whole;
-        parent_is = given_for_run mode (parent_trace trace) parent first (parent_is_trace trace value) is list refl;
-        children_are = children_given trace parent.journal forks children are;
       },
       subst (BeginsAsSerial mode trace) (sym whole) (begins_serial mode trace parent rest is),
     )

@@ -13,7 +13,7 @@ use Rattle.vma_replay.specs.declared.words.Job.{Job}
 use Rattle.vma_replay.specs.declared.words.Job.TheVariants as jobs
 use Rattle.vma_replay.specs.declared.words.Mode.{Mode}
 use Rattle.text_lexer.specs.Lines.{input_limit}
-use Rattle.vma_replay.specs.Internal.Giving.{GivesAnOutput, GivesASummary, GivesThis, IsDone}
+use Rattle.vma_replay.specs.Internal.Giving.{GivesAnOutput, GivesASummary, GivesThis, IsRunPrinted}
 use Rattle.vma_replay.specs.Internal.Reading.{IsChecking, IsReading}
 use Rattle.output.specs.Checked.{IsCheckedAs}
 use Rattle.output.specs.Input.{input_of}
@@ -28,11 +28,11 @@ given_for mode input trace runs text read given =
 -- the sink failed
 fault_front : (mode : Mode) (words : Option Job) (from upto : SourceView) (old new : SinkView) (trace : Trace) (status : Status)
     (runs : List ClosedView) → words ≡ Some (jobs.Replay mode) → IsReading trace_of input_limit from upto (Ok trace)
-    → IsDone (GivesAnOutput mode trace) old new status runs → status ≡ statuses.WriteFault
+    → IsRunPrinted (GivesAnOutput mode trace) old new status runs → status ≡ statuses.WriteFault
     → IsSomeAnd words (λ job. GivesProperBeginning (work_of job) from upto old new)
 fault_front mode words from upto old new trace status runs is reading done failed =
-    let cut : IsDone (GivesAnOutput mode trace) old new statuses.WriteFault runs =
-    subst (λ (s : Status). IsDone (GivesAnOutput mode trace) old new s runs) failed done in
+    let cut : IsRunPrinted (GivesAnOutput mode trace) old new statuses.WriteFault runs =
+    subst (λ (s : Status). IsRunPrinted (GivesAnOutput mode trace) old new s runs) failed done in
     let begun : GivesProperBeginning (work_of (jobs.Replay mode)) from upto old new = (
       reading.4.0,
       reading.4.1,
@@ -44,15 +44,15 @@ fault_front mode words from upto old new trace status runs is reading done faile
 -- where source and sink stood before as they did at first
 pub replay_fault : (mode : Mode) (words : Option Job) (start from upto : SourceView) (first old new : SinkView) (trace : Trace) (status : Status)
     (runs : List ClosedView) → from ≡ start → old ≡ first → words ≡ Some (jobs.Replay mode) → IsReading trace_of input_limit from upto (Ok trace)
-    → IsDone (GivesAnOutput mode trace) old new status runs → status ≡ statuses.WriteFault
+    → IsRunPrinted (GivesAnOutput mode trace) old new status runs → status ≡ statuses.WriteFault
     → IsSomeAnd words (λ job. GivesProperBeginning (work_of job) start upto first new)
 replay_fault mode words start from upto first old new trace status runs source sink is reading done =
     fault_front mode words start upto first new trace status runs is
     (subst (λ (s : SourceView). IsReading trace_of input_limit s upto (Ok trace)) source reading)
-    (subst (λ (k : SinkView). IsDone (GivesAnOutput mode trace) k new status runs) sink done)
+    (subst (λ (k : SinkView). IsRunPrinted (GivesAnOutput mode trace) k new status runs) sink done)
 
 short_front : (mode : Mode) (from upto : SourceView) (old new : SinkView) (trace : Trace) (runs : List ClosedView)
-    → IsReading trace_of input_limit from upto (Ok trace) → IsDone (GivesAnOutput mode trace) old new statuses.NoMemory runs
+    → IsReading trace_of input_limit from upto (Ok trace) → IsRunPrinted (GivesAnOutput mode trace) old new statuses.NoMemory runs
     → Keeps old.written new.written ⊎ GivesBeginning (work_of (jobs.Replay mode)) from upto old new
 short_front mode from upto old new trace runs reading done = elim done.2 [
   | inl kept ↦ inl kept
@@ -67,23 +67,23 @@ short_front mode from upto old new trace runs reading done = elim done.2 [
 -- memory ran out
 short_of : (mode : Mode) (words : Option Job) (from upto : SourceView) (old new : SinkView) (trace : Trace) (status : Status)
     (runs : List ClosedView) → words ≡ Some (jobs.Replay mode) → IsReading trace_of input_limit from upto (Ok trace)
-    → IsDone (GivesAnOutput mode trace) old new status runs → status ≡ statuses.NoMemory
+    → IsRunPrinted (GivesAnOutput mode trace) old new status runs → status ≡ statuses.NoMemory
     → Keeps old.written new.written ⊎ IsSomeAnd words (λ job. GivesBeginning (work_of job) from upto old new)
 short_of mode words from upto old new trace status runs is reading done failed =
     subst (λ (w : Option Job). Keeps old.written new.written ⊎ IsSomeAnd w (λ job. GivesBeginning (work_of job) from upto old new)) (sym is)
-    (short_front mode from upto old new trace runs reading (subst (λ (s : Status). IsDone (GivesAnOutput mode trace) old new s runs) failed done))
+    (short_front mode from upto old new trace runs reading (subst (λ (s : Status). IsRunPrinted (GivesAnOutput mode trace) old new s runs) failed done))
 
 pub replay_short : (mode : Mode) (words : Option Job) (start from upto : SourceView) (first old new : SinkView) (trace : Trace) (status : Status)
     (runs : List ClosedView) → from ≡ start → old ≡ first → words ≡ Some (jobs.Replay mode) → IsReading trace_of input_limit from upto (Ok trace)
-    → IsDone (GivesAnOutput mode trace) old new status runs → status ≡ statuses.NoMemory
+    → IsRunPrinted (GivesAnOutput mode trace) old new status runs → status ≡ statuses.NoMemory
     → Keeps first.written new.written ⊎ IsSomeAnd words (λ job. GivesBeginning (work_of job) start upto first new)
 replay_short mode words start from upto first old new trace status runs source sink is reading done =
     short_of mode words start upto first new trace status runs is
     (subst (λ (s : SourceView). IsReading trace_of input_limit s upto (Ok trace)) source reading)
-    (subst (λ (k : SinkView). IsDone (GivesAnOutput mode trace) k new status runs) sink done)
+    (subst (λ (k : SinkView). IsRunPrinted (GivesAnOutput mode trace) k new status runs) sink done)
 
 summary_front : (count seed : ℕ) (from upto : SourceView) (old new : SinkView) (runs : List ClosedView)
-    → IsDone (GivesASummary count seed) old new statuses.NoMemory runs
+    → IsRunPrinted (GivesASummary count seed) old new statuses.NoMemory runs
     → Keeps old.written new.written ⊎ GivesBeginning (work_of (jobs.Generate count seed)) from upto old new
 summary_front count seed from upto old new runs done = elim done.2 [
   | inl kept ↦ inl kept
@@ -91,20 +91,20 @@ summary_front count seed from upto old new runs done = elim done.2 [
 ]
 
 pub generate_short : (count seed : ℕ) (words : Option Job) (from upto : SourceView) (first old new : SinkView) (status : Status) (runs : List ClosedView)
-    → old ≡ first → words ≡ Some (jobs.Generate count seed) → IsDone (GivesASummary count seed) old new status runs → status ≡ statuses.NoMemory
+    → old ≡ first → words ≡ Some (jobs.Generate count seed) → IsRunPrinted (GivesASummary count seed) old new status runs → status ≡ statuses.NoMemory
     → Keeps first.written new.written ⊎ IsSomeAnd words (λ job. GivesBeginning (work_of job) from upto first new)
 generate_short count seed words from upto first old new status runs sink is done failed =
     subst (λ (w : Option Job). Keeps first.written new.written ⊎ IsSomeAnd w (λ job. GivesBeginning (work_of job) from upto first new)) (sym is)
-    (summary_front count seed from upto first new runs (subst (λ (k : SinkView). IsDone (GivesASummary count seed) k new statuses.NoMemory runs) sink
-    (subst (λ (s : Status). IsDone (GivesASummary count seed) old new s runs) failed done)))
+    (summary_front count seed from upto first new runs (subst (λ (k : SinkView). IsRunPrinted (GivesASummary count seed) k new statuses.NoMemory runs) sink
+    (subst (λ (s : Status). IsRunPrinted (GivesASummary count seed) old new s runs) failed done)))
 
 -- the sink failed while it was told what is judged
 pub check_fault : (words : Option Job) (from upto : SourceView) (old new : SinkView) (whole shown : List ℕ) (status : Status)
-    → words ≡ Some jobs.Check → IsChecking from upto (Ok whole) → shown ≡ whole → IsDone (GivesThis shown) old new status []
+    → words ≡ Some jobs.Check → IsChecking from upto (Ok whole) → shown ≡ whole → IsRunPrinted (GivesThis shown) old new status []
     → status ≡ statuses.WriteFault → IsSomeAnd words (λ job. GivesProperBeginning (work_of job) from upto old new)
 check_fault words from upto old new whole shown status is checking same done failed =
-    let cut : IsDone (GivesThis shown) old new statuses.WriteFault [] =
-    subst (λ (s : Status). IsDone (GivesThis shown) old new s []) failed done in
+    let cut : IsRunPrinted (GivesThis shown) old new statuses.WriteFault [] =
+    subst (λ (s : Status). IsRunPrinted (GivesThis shown) old new s []) failed done in
     let begun : GivesProperBeginning (work_of jobs.Check) from upto old new = (
       checking.4.0,
       checking.4.1,

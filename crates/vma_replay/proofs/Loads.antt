@@ -5,7 +5,7 @@ use Rattle.std.proofs.lemmas.List.Elements.{All-nil, All-cons}
 use Rattle.trace_reader.specs.declared.trace.Trace.{Trace}
 use Rattle.trace_reader.specs.declared.trace.TraceLine.{TraceLine}
 use Rattle.trace_reader.specs.Values.{child_of}
-use Rattle.gen_load.specs.Loads.{kind_of, next_of, draw_of, line_of, lines_after, load_lines, load_trace}
+use Rattle.gen_load.specs.Loads.{kind_of, next_of, draw_of, drawn_line, lines_after, load_lines, load_trace}
 use Rattle.gen_load.proofs.LoadOperations.{operation-loaded}
 use Rattle.history.specs.Parents.{parent_lines, parent_trace}
 use Rattle.mm_space.specs.Closing.{ClosedView}
@@ -17,7 +17,7 @@ none_forks : (number count last : ℕ) → All (λ line. child_of line.op ≡ No
 unfolding lines_after
 none_forks number zero last = All-nil (λ (line : TraceLine). child_of line.op ≡ None)
 none_forks number (suc count) last =
-    All-cons (λ (line : TraceLine). child_of line.op ≡ None) (line_of number (draw_of (next_of last))) (lines_after (number + 1) count (next_of last))
+    All-cons (λ (line : TraceLine). child_of line.op ≡ None) (drawn_line number (draw_of (next_of last))) (lines_after (number + 1) count (next_of last))
     (operation-loaded (kind_of (draw_of (next_of last))) (draw_of (next_of last))).no_child
     (none_forks (number + 1) count (next_of last))
 

@@ -20,7 +20,7 @@ use Rattle.area_rules.specs.Journals.{calls_by, version_of, IsReadRight}
 use Rattle.lock_core.specs.Facts.{list_after}
 use Rattle.history.specs.declared.callers.TheConstants.{MOST_THREADS}
 use Rattle.history.specs.declared.items.Item.{Item}
-use Rattle.history.specs.Histories.{caller_of, lines_of, items_of, line_of, op_of, read_as, gather, journal_of, IsLegalHistory}
+use Rattle.history.specs.Histories.{caller_of, lines_of, items_of, line_answered, op_asked, read_as, gather, journal_of, IsLegalHistory}
 use Rattle.history.specs.Runs.{entry_items, log_items, logs_items, own_of, ops_of, history_of, IsRun}
 use Rattle.history.specs.Labels.{labelled, label_of, IsSerialRun}
 use Rattle.history.specs.CallerPlaces.{callers_of}
@@ -45,7 +45,7 @@ use Rattle.vma_replay.specs.declared.words.Mode.TheVariants as modes
 use Rattle.output.specs.Output.{told_by}
 use Rattle.vma_replay.specs.Forks.{fork_of, forks_from, forks_of}
 use Rattle.output.specs.Giving.{AreLegal}
-use Rattle.vma_replay.specs.Internal.Families.{AreRunsOfChildren, IsFamily, IsForkOf, IsOfParent}
+use Rattle.vma_replay.specs.Internal.Families.{AreRunsOfChildren, IsFamily, IsForkOf, IsParentJournal}
 use Rattle.vma_replay.specs.Replaying.{IsRunOf, history_of_run}
 use Rattle.vma_replay.proofs.RunTexts.{first_log, legal_of_run, serial_own}
 use Rattle.output.proofs.Answering.{there, none_at}
@@ -72,10 +72,10 @@ callers_below least most journal within others =
 -- an item of a legal history is of a caller that has a line
 item_caller : (config : Config) (lines : List TraceLine) (items : List Item) (callers : ℕ) → IsLegalHistory config [] lines items
     → ((caller : ℕ) → callers ≤ caller → lines_of lines caller ≡ []) → All (λ item. item.caller < callers) items
-unfolding line_of
+unfolding line_answered
 item_caller config lines items callers legal none = λ place d within.
     let item : Item = get_or items place d in
-    let next = there (line_of lines (take place items) item) (λ line. read_as line.op ≡ op_of item.content) (legal.stands place item (slice_get-get_or items place d within)).next in
+    let next = there (line_answered lines (take place items) item) (λ line. read_as line.op ≡ op_asked item.content) (legal.stands place item (slice_get-get_or items place d within)).next in
     elim (cases_lt item.caller callers) [
       | inl below ↦ below
       | inr past ↦ absurd (none_at (lines_of lines item.caller) (length (items_of (take place items) item.caller)) next.0 (none item.caller past) next.1)
@@ -100,12 +100,12 @@ serial_few config lines journal log run =
     let entries : journal_of items ≡ journal = history_journal journal (log ∷ []) small in
     let own : items ≡ own_of 0 journal log = serial_own config lines journal log run in
     let ops : length (own_of 0 journal log) ≡ length lines =
-    sym (length-map (own_of 0 journal log) (λ (item : Item). op_of item.content)) ∙ ap (λ (l : List Op). length l) run.done
+    sym (length-map (own_of 0 journal log) (λ (item : Item). op_asked item.content)) ∙ ap (λ (l : List Op). length l) run.done
     ∙ length-map lines (λ (line : TraceLine). read_as line.op) in
     omega (arith, journal_within items, ap (λ (j : List Entry). length j) entries, ap (λ (l : List Item). length l) own, ops)
 
 -- the journal of a run is that of a parent
-pub of_parent : (mode : Mode) (trace : Trace) (run : ClosedView) → IsTraceValue trace → IsRunOf mode trace run → IsOfParent trace.config run.journal
+pub of_parent : (mode : Mode) (trace : Trace) (run : ClosedView) → IsTraceValue trace → IsRunOf mode trace run → IsParentJournal trace.config run.journal
 of_parent modes.Threads trace run value is = record {
   legal = record { replies = is.legal.replies };
   callers = callers_below (callers_of trace.lines) MOST_THREADS run.journal (few_callers trace.lines) is.others;
@@ -182,20 +182,20 @@ versions_within modes.Serial trace run value is =
 
 -- what is told of each item holds of what is told of all
 told_each : {X : Type 0} (tell : TraceLine → Item → List X) (lines : List TraceLine) (P : X → Type 0) (before rest : List Item)
-    → ((place : ℕ) (item : Item) (line : TraceLine) → slice_get rest place ≡ Some item → line_of lines (before ++ take place rest) item ≡ Some line
+    → ((place : ℕ) (item : Item) (line : TraceLine) → slice_get rest place ≡ Some item → line_answered lines (before ++ take place rest) item ≡ Some line
     → All P (tell line item))
     → All P (told_by tell lines before rest)
 told_each tell lines P before [] each = All-nil P
 told_each {X} tell lines P before (item ∷ items) each =
-    All-append P (option_map_or (λ line. tell line item) (line_of lines before item) []) (told_by tell lines (before ++ item ∷ []) items)
-    (first (line_of lines before item) refl)
+    All-append P (option_map_or (λ line. tell line item) (line_answered lines before item) []) (told_by tell lines (before ++ item ∷ []) items)
+    (first (line_answered lines before item) refl)
     (told_each tell lines P (before ++ item ∷ []) items
     (λ place other line found at. each (suc place) other line found
-    (subst (λ (l : List Item). line_of lines l other ≡ Some line) (append_assoc before (item ∷ []) (take place items)) at)))
+    (subst (λ (l : List Item). line_answered lines l other ≡ Some line) (append_assoc before (item ∷ []) (take place items)) at)))
   where
-    first : (o : Option TraceLine) → line_of lines before item ≡ o → All P (option_map_or (λ line. tell line item) o [])
+    first : (o : Option TraceLine) → line_answered lines before item ≡ o → All P (option_map_or (λ line. tell line item) o [])
     first None is = All-nil P
-    first (Some line) is = each 0 item line refl (ap (λ (l : List Item). line_of lines l item) (append-nil before) ∙ is)
+    first (Some line) is = each 0 item line refl (ap (λ (l : List Item). line_answered lines l item) (append-nil before) ∙ is)
 
 -- a line that forks a child stands among lines that fork it
 forked : (lines : List TraceLine) (place : ℕ) (line : TraceLine) (child : ℕ) → slice_get lines place ≡ Some line → child_of line.op ≡ Some child
@@ -212,9 +212,9 @@ forked (first ∷ lines) (suc place) line child found forks = later (child_of fi
     later (Some other) contained = contains_later other (children_of lines) child contained
 
 -- the line that an item answers is one of the lines
-answered_line : (lines : List TraceLine) (before : List Item) (item : Item) (line : TraceLine) → line_of lines before item ≡ Some line
+answered_line : (lines : List TraceLine) (before : List Item) (item : Item) (line : TraceLine) → line_answered lines before item ≡ Some line
     → (place : ℕ) × (slice_get lines place ≡ Some line)
-unfolding line_of
+unfolding line_answered
 answered_line lines before item line answers =
     let at = own_place lines item.caller (length (items_of before item.caller)) line answers in (at.0, at.1)
 
@@ -264,7 +264,7 @@ low_threads trace lines value is =
 
 -- the journal of a parent's run
 pub bears : (mode : Mode) (trace : Trace) (run : ClosedView) → IsTraceValue trace → IsRunOf mode (parent_trace trace) run
-    → IsOfParent trace.config run.journal
+    → IsParentJournal trace.config run.journal
 bears mode trace run value is = of_parent mode (parent_trace trace) run (parent_is_trace trace value) is
 
 -- the forks that were found

@@ -1,10 +1,9 @@
 -- For `retraced_texts_come_back`: the history of a trace that maps areas, one after another, and what is told of it.
-use Rattle.std.proofs.Common.{ℕ, ◌≡◌, ◌+◌, ◌*◌, ◌∙◌, refl, sym, ap, subst, not, List, [], ◌∷◌, ◌++◌, append-nil, append_assoc, length, codes, decimal, map, filter, Option, Ok, arith}
+use Rattle.std.proofs.Common.{ℕ, ◌≡◌, ◌+◌, ◌*◌, ◌∙◌, refl, sym, ap, subst, not, List, [], ◌∷◌, ◌++◌, append-nil, append_assoc, length, codes, decimal, map, filter, zip, flat_map, Option, Ok, arith}
 use Rattle.std.specs.Option.{option_map_or}
 use Rattle.std.proofs.lemmas.List.Elements.{All-nil, All-cons}
 use Rattle.mm_types.specs.declared.area.Record.{Record}
 use Rattle.mm_types.specs.declared.call.Call.TheVariants.{Mmap}
-use Rattle.mm_types.specs.declared.call.Entry.{Entry}
 use Rattle.mm_types.specs.declared.call.Reply.{Reply}
 use Rattle.mm_types.specs.declared.call.Reply.TheVariants.{Addr}
 use Rattle.mm_types.specs.declared.config.Config.{Config}
@@ -21,7 +20,7 @@ use Rattle.area_rules.specs.Tables.{AddressSpace, Outcome}
 use Rattle.area_rules.specs.Steps.{opening, after}
 use Rattle.history.specs.declared.items.Content.TheVariants as contents
 use Rattle.history.specs.declared.items.Item.{Item}
-use Rattle.history.specs.Histories.{AsksItself, AskThemselves, asks_for, caller_of, call_of, lines_of, journal_of, gather, serial_history, space_after_all}
+use Rattle.history.specs.Histories.{AsksItself, AskThemselves, asks_for, caller_of, call_made, lines_of, journal_of, gather, serial_history, space_after_all}
 use Rattle.history.proofs.Serial.{AllAnswer, all_answer, items_of_pairs, none_counted, opening_stands, pairs_from}
 use Rattle.history.proofs.SerialOrder.{insert_item, BeginsAt, inserted_first, serial_space}
 use Rattle.mm_space.specs.Closing.{ClosedView}
@@ -34,7 +33,7 @@ use Rattle.vma_replay.specs.declared.words.Conversion.TheVariants as conversions
 use Rattle.vma_replay.specs.declared.words.Mode.TheVariants as modes
 use Rattle.vma_replay.specs.Forks.{fork_of, forks_from, forks_of}
 use Rattle.output.specs.Output.{content_text, item_text, told_by, maps_text, listed_text, output_text, serial_output}
-use Rattle.vma_replay.specs.Replaying.{AreChildrenGiven, GivesRuns, converted, history_of_run}
+use Rattle.vma_replay.specs.Replaying.{GivesRuns, converted, forks_of_run, history_of_run, text_of_run}
 use Rattle.vma_replay.specs.Retraced.{address_line, address_lines, output_with, EndsWith}
 use Rattle.vma_replay.proofs.RunTexts.{serial_is}
 
@@ -54,7 +53,7 @@ items_in pairs = map (λ (p : TraceLine × Item). p.1) pairs
 
 pairs_are : (trace : List TraceLine) (files : List FileRow) (before areas : List Record) (number version : ℕ) → AreMappedBehind files before areas
     → pairs_from (default_config files) trace (space_with files before) version (mapping_lines number areas) ≡ mapped_pairs number version areas
-unfolding mapping_lines call_of caller_of
+unfolding mapping_lines call_made caller_of
 pairs_are trace files before [] number version mapped = refl
 pairs_are trace files before (area ∷ areas) number version mapped =
     ap (λ (o : Outcome). replied number version area o.reply
@@ -135,7 +134,7 @@ no_forks number version (area ∷ areas) = no_forks (number + 1) (version + 1) a
 -- all areas are there after the lines
 space_is : (files : List FileRow) (before areas : List Record) (number : ℕ) → AreMappedBehind files before areas
     → space_after_all (default_config files) (space_with files before) (mapping_lines number areas) ≡ space_with files (before ++ areas)
-unfolding mapping_lines call_of
+unfolding mapping_lines call_made
 space_is files before [] number mapped = ap (space_with files) (sym (append-nil before))
 space_is files before (area ∷ areas) number mapped =
     ap (λ (o : Outcome). space_after_all (default_config files) o.space (mapping_lines (number + 1) areas)) mapped.0
@@ -176,13 +175,6 @@ all_lines lines none = ap (λ (c : List ℕ). filter (λ (line : TraceLine). not
     kept [] = refl
     kept (line ∷ lines) = ap (λ (l : List TraceLine). line ∷ l) (kept lines)
 
--- without a fork nothing is given for children
-none_given : (trace : Trace) (parent : List Entry) (forks : List Fork) (children : List ClosedView) (text : List ℕ) → forks ≡ []
-    → AreChildrenGiven trace parent forks children text → text ≡ []
-none_given trace parent [] [] text none given = given
-none_given trace parent [] (child ∷ children) text none given = absurd given
-none_given trace parent (fork ∷ forks) children text none given = absurd (cc)
-
 -- where nothing forks, the output is all that `serial` gives
 given_is : (trace : Trace) (runs : List ClosedView) (given : List ℕ) → children_of trace.lines ≡ []
     → forks_from trace.lines (serial_history trace.config trace.lines) ≡ [] → GivesRuns modes.Serial trace runs given
@@ -193,16 +185,15 @@ given_is trace runs given childless forkless gives =
     let same : lines ≡ trace.lines = all_lines trace.lines childless in
     let items : history_of_run modes.Serial (parent_trace trace) gives.parent ≡ serial_history trace.config lines =
     serial_is (parent_trace trace) gives.parent gives.parent_is.run_is in
-    let first : gives.first ≡ serial_output trace =
-    gives.parent_is.text_is ∙ ap (output_text trace.config lines) items
+    let first : output_text trace.config lines (history_of_run modes.Serial (parent_trace trace) gives.parent) ≡ serial_output trace =
+    ap (output_text trace.config lines) items
     ∙ ap (λ (l : List TraceLine). output_text trace.config l (serial_history trace.config l)) same in
     let forks : forks_of lines (history_of_run modes.Serial (parent_trace trace) gives.parent) ≡ [] =
     ap (forks_of lines) items ∙ ap (λ (l : List TraceLine). forks_of l (serial_history trace.config l)) same
     ∙ ap (λ (l : List Fork). sort_by (λ (fork : Fork). fork.child) l) forkless in
-    let rest : gives.rest ≡ [] =
-    none_given trace gives.parent.journal (forks_of lines (history_of_run modes.Serial (parent_trace trace) gives.parent))
-    gives.children gives.rest forks gives.children_are in
-    gives.text_is ∙ ap (λ (t : List ℕ). t ++ gives.rest) first ∙ ap (λ (t : List ℕ). serial_output trace ++ t) rest
+    let rest : List Fork → List ℕ = λ f. flat_map (text_of_run trace gives.parent.journal) (zip f gives.children) in
+    gives.text_is ∙ ap (λ (t : List ℕ). t ++ rest (forks_of_run modes.Serial trace gives.parent)) first
+    ∙ ap (λ (f : List Fork). serial_output trace ++ rest f) forks
     ∙ append-nil (serial_output trace)
 
 pub comes_back : (bytes text : List ℕ) → converted conversions.Retrace bytes ≡ Ok text → EndsWith bytes text

@@ -1,5 +1,5 @@
 -- Serves `closed_family`: the history of a closed run is legal, and ends with its list.
-use Rattle.std.proofs.Common.{ℕ, ◌≡◌, ◌<◌, ◌^◌, ◌∙◌, refl, sym, ap, subst, nat_eq, List, [], ◌∷◌, ◌++◌, append-nil, length, map, filter, slice_get, unwrap_or, All, arith}
+use Rattle.std.proofs.Common.{◌≡◌, ◌<◌, ◌^◌, ◌∙◌, refl, sym, ap, subst, nat_eq, List, [], ◌∷◌, ◌++◌, append-nil, length, map, filter, slice_get, unwrap_or, All, arith}
 use Rattle.std.specs.Prelude.{Vec}
 use Rattle.std.specs.declared.alloc.Global.{Global}
 use Rattle.std.proofs.lemmas.List.{length-map}
@@ -25,8 +25,7 @@ use Rattle.history.proofs.SerialOrder.{serial_is_history, serial_space}
 use Rattle.mm_space.specs.Closing.{ClosedView}
 use Rattle.vma_replay.specs.declared.words.Mode.{Mode}
 use Rattle.vma_replay.specs.declared.words.Mode.TheVariants as modes
-use Rattle.output.specs.Output.{output_text}
-use Rattle.vma_replay.specs.Replaying.{IsRunOf, IsGivenFor, history_of_run}
+use Rattle.vma_replay.specs.Replaying.{IsLegalRun, IsRunOf, history_of_run}
 use Rattle.history.specs.CallerPlaces.{callers_of}
 use Rattle.vma_drive.proofs.NamesShared.{few_callers}
 
@@ -80,14 +79,12 @@ list_of_run modes.Serial trace run is list =
     ∙ sym (serial_space trace.config trace.lines))
     ∙ ap (λ (l : List Item). list_after trace.config (journal_of l)) (sym (serial_is trace run is))
 
-pub given_for_run : (mode : Mode) (trace : Trace) (run : ClosedView) (text : List ℕ) → IsTraceValue trace → IsRunOf mode trace run
-    → run.list ≡ list_after trace.config run.journal
-    → text ≡ output_text trace.config trace.lines (history_of_run mode trace run) → IsGivenFor mode trace run text
-given_for_run mode trace run text value is list told = record {
+pub run_is_legal : (mode : Mode) (trace : Trace) (run : ClosedView) → IsTraceValue trace → IsRunOf mode trace run
+    → run.list ≡ list_after trace.config run.journal → IsLegalRun mode trace run
+run_is_legal mode trace run value is list = record {
   run_is = is;
   legal = legal_of_run mode trace run value is;
   list = list_of_run mode trace run is list;
-  text_is = told;
 }
 
 -- the logs of a run are few

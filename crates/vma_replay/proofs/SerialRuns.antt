@@ -13,7 +13,7 @@ use Rattle.area_rules.specs.Steps.{after}
 use Rattle.history.specs.declared.items.Content.{Content}
 use Rattle.history.specs.declared.items.Content.TheVariants as contents
 use Rattle.history.specs.declared.items.Item.{Item}
-use Rattle.history.specs.Histories.{answer_of, is_call, op_of, journal_of}
+use Rattle.history.specs.Histories.{answer_of, is_call, op_asked, journal_of}
 use Rattle.history.specs.Runs.{entry_items, logs_items, history_of, ops_of, asked, IsReadRightAfter}
 use Rattle.history.specs.Labels.{IsSerialRun}
 use Rattle.history.proofs.Gathers.{all_gather}
@@ -43,10 +43,10 @@ abbrev did : List Entry → List Seen → List Item
 did journal log = history_of journal (log ∷ [])
 
 asked_for : (config : Config) (lines : List TraceLine) (journal : List Entry) (log : List Seen) → IsSerialRun config lines journal log
-    → map (λ (item : Item). op_of item.content) (did journal log) ≡ asked lines
+    → map (λ (item : Item). op_asked item.content) (did journal log) ≡ asked lines
 unfolding ops_of
 asked_for config lines journal log run =
-    ap (λ (l : List Item). map (λ (item : Item). op_of item.content) l) (serial_own config lines journal log run) ∙ run.done
+    ap (λ (l : List Item). map (λ (item : Item). op_asked item.content) l) (serial_own config lines journal log run) ∙ run.done
 
 by_none_else : (config : Config) (lines : List TraceLine) (journal : List Entry) (log : List Seen) → IsSerialRun config lines journal log
     → All (λ item. item.caller < 1) (did journal log)
@@ -65,7 +65,7 @@ no_item = record { caller = 0; version = 0; content = contents.List [] }
 
 -- an item is settled by what stands before it and by what it was asked
 settled : (config : Config) (before : List Item) (item other : Item) → IsPlaced config [] before item → IsPlaced config [] before other
-    → item.caller < 1 → other.caller < 1 → op_of item.content ≡ op_of other.content → item ≡ other
+    → item.caller < 1 → other.caller < 1 → op_asked item.content ≡ op_asked other.content → item ≡ other
 settled config before item other one two own same_caller asked =
     let content : item.content ≡ other.content =
     right_is_answer config (journal_of before) (after config (journal_of before)) item.content refl one.right
@@ -82,14 +82,14 @@ module _ (config : Config) (lines : List TraceLine) (journal other : List Entry)
     (first : IsSerialRun config lines journal log) (second : IsSerialRun config lines other others) where
   as_long : length (did journal log) ≡ length (did other others)
   as_long =
-      sym (length-map (did journal log) (λ (item : Item). op_of item.content))
+      sym (length-map (did journal log) (λ (item : Item). op_asked item.content))
       ∙ ap (λ (l : List Op). length l) (asked_for config lines journal log first ∙ sym (asked_for config lines other others second))
-      ∙ length-map (did other others) (λ (item : Item). op_of item.content)
+      ∙ length-map (did other others) (λ (item : Item). op_asked item.content)
 
   asked_alike : (place : ℕ) (d : Item) → place < length (did journal log)
-      → op_of (get_or (did journal log) place d).content ≡ op_of (get_or (did other others) place d).content
+      → op_asked (get_or (did journal log) place d).content ≡ op_asked (get_or (did other others) place d).content
   asked_alike place d within =
-      let op : Item → Op = λ item. op_of item.content in
+      let op : Item → Op = λ item. op_asked item.content in
       let mine = slice_get-map op (did journal log) place ∙ ap (option_map op) (slice_get-get_or (did journal log) place d within) in
       let theirs = slice_get-map op (did other others) place
       ∙ ap (option_map op) (slice_get-get_or (did other others) place d (omega (arith, as_long))) in

@@ -13,7 +13,7 @@ use Rattle.trace_reader.specs.declared.trace.TraceLine.{TraceLine}
 use Rattle.history.specs.declared.items.Content.{Content}
 use Rattle.history.specs.declared.items.Content.TheVariants as contents
 use Rattle.history.specs.declared.items.Item.{Item}
-use Rattle.history.specs.Histories.{caller_of, is_call, journal_of, op_of, read_as, gather, serial_history, goes_first}
+use Rattle.history.specs.Histories.{caller_of, is_call, journal_of, op_asked, read_as, gather, serial_history, goes_first}
 use Rattle.history.specs.Runs.{content_of, entry_items, history_of, log_items, logs_items, ops_of, own_of, read_item}
 use Rattle.history.specs.Labels.{labelled, label_of, IsSerialRun}
 use Rattle.history.proofs.Labels.{label_is_serial}
@@ -88,7 +88,7 @@ as_many : (config : Config) (lines : List TraceLine) (journal : List Entry) (log
 unfolding ops_of
 as_many config lines journal log run =
     ap length (serial_own config lines journal log run)
-    ∙ sym (length-map (own_of 0 journal log) (λ (item : Item). op_of item.content))
+    ∙ sym (length-map (own_of 0 journal log) (λ (item : Item). op_asked item.content))
     ∙ ap length run.done
     ∙ length-map lines (λ (line : TraceLine). read_as line.op)
 

@@ -14,7 +14,7 @@ use Rattle.text_lexer.specs.Reading.{IsErrorOf}
 use Rattle.vma_replay.specs.declared.status.Status.{Status}
 use Rattle.vma_replay.specs.declared.words.Conversion.{Conversion}
 use Rattle.vma_replay.specs.declared.words.Conversion.TheVariants as conversions
-use Rattle.vma_replay.specs.Replaying.{Takes, converted, most_converted}
+use Rattle.vma_replay.specs.Replaying.{Takes, converted}
 use Rattle.vma_replay.specs.Internal.Reading.{IsReading, IsTaking, refused_as}
 use Rattle.trace_reader.specs.Grammar.{trace_of}
 use Rattle.trace_reader.proofs.Beginnings.{trace_of-front, trace_within}
@@ -76,7 +76,7 @@ refused_first {Y} read limit bounded old new bytes error status taken bad is =
 bounded_trace : IsBounded trace_of input_limit
 bounded_trace = record { front = trace_of-front; within = trace_within }
 
-bounded : (conversion : Conversion) → IsBounded (converted conversion) (most_converted conversion)
+bounded : (conversion : Conversion) → IsBounded (converted conversion) input_limit
 bounded conversions.Steps = record { front = output-front; within = output-within }
 bounded (conversions.Query address) = record { front = query_answer-front address; within = query_answer-within address }
 bounded conversions.Retrace = record { front = retraced-front; within = retraced-within }
@@ -93,11 +93,11 @@ reads_no_trace = refused_first trace_of input_limit bounded_trace
 
 -- of what is turned into a text
 pub converts : (conversion : Conversion) (old new : SourceView) (bytes text : List ℕ)
-    → IsTaking (most_converted conversion) old new (Ok bytes) → converted conversion bytes ≡ Ok text
-    → IsReading (converted conversion) (most_converted conversion) old new (Ok text)
-converts conversion = found_whole (converted conversion) (most_converted conversion) (bounded conversion)
+    → IsTaking input_limit old new (Ok bytes) → converted conversion bytes ≡ Ok text
+    → IsReading (converted conversion) input_limit old new (Ok text)
+converts conversion = found_whole (converted conversion) input_limit (bounded conversion)
 
 pub converts_nothing : (conversion : Conversion) (old new : SourceView) (bytes : List ℕ) (error : ReadError) (status : Status)
-    → IsTaking (most_converted conversion) old new (Ok bytes) → IsErrorOf error (converted conversion bytes) → status ≡ refused_as error
-    → IsReading (converted conversion) (most_converted conversion) old new (Err status)
-converts_nothing conversion = refused_first (converted conversion) (most_converted conversion) (bounded conversion)
+    → IsTaking input_limit old new (Ok bytes) → IsErrorOf error (converted conversion bytes) → status ≡ refused_as error
+    → IsReading (converted conversion) input_limit old new (Err status)
+converts_nothing conversion = refused_first (converted conversion) input_limit (bounded conversion)

@@ -1,5 +1,6 @@
 -- What the promises of `replay` say of what it takes, runs, gives and answers.
-use Rattle.std.specs.Prelude.{ℕ, ◌≡◌, ◌<◌, ◌≤◌, ◌+◌, ◌⊎◌, Bool, true, false, List, [], ◌∷◌, ◌++◌, length, take, Option, Some, None, is_some, option_and_then, unwrap_or, slice_get, String, Result, Ok, IsOkAnd}
+use Rattle.std.specs.Prelude.{ℕ, ◌≡◌, ◌<◌, ◌≤◌, ◌+◌, ◌⊎◌, Bool, true, false, List, [], ◌∷◌, ◌++◌, length, take, zip, flat_map, Option, Some, None, is_some, option_and_then, unwrap_or, slice_get, String, Result, Ok, IsOkAnd}
+use Rattle.std.specs.List.{AllZip}
 use Rattle.std.specs.Option.{option_map_or}
 use Rattle.std.specs.Result.{result_err}
 use Rattle.std.specs.declared.alloc.Global.{Global}
@@ -55,12 +56,11 @@ abbrev pub history_of_run : Mode → Trace → ClosedView → List Item
 history_of_run modes.Threads trace run = history_of run.journal run.logs
 history_of_run modes.Serial trace run = label_of trace.lines run.journal (unwrap_or (slice_get run.logs 0) [])
 
--- what is given for a closed run of a trace: the text of its history, which is legal, and which ends with the list of the run
-pub record IsGivenFor (mode : Mode) (trace : Trace) (run : ClosedView) (text : List ℕ) : Type 0 where
+-- a closed run of a trace whose history is legal, and which left the list after that history's calls
+pub record IsLegalRun (mode : Mode) (trace : Trace) (run : ClosedView) : Type 0 where
   pub run_is : IsRunOf mode trace run
   pub legal : IsLegalHistory trace.config [] trace.lines (history_of_run mode trace run)
   pub list : run.list ≡ list_after trace.config (journal_of (history_of_run mode trace run))
-  pub text_is : text ≡ output_text trace.config trace.lines (history_of_run mode trace run)
 
 -- A closed run of a child of a trace, by the journal of its parent and its fork: behind what it inherited it is of the child's lines, and its
 -- history, with versions from the fork on, is legal.
@@ -73,32 +73,25 @@ pub record IsRunOfChild (trace : Trace) (parent : List Entry) (fork : Fork) (run
       (child_history_of fork.version run.journal run.logs)
   pub list : run.list ≡ list_after trace.config run.journal
 
--- what is given for such a run: the text of its history
-abbrev pub IsChildGiven : Trace → List Entry → Fork → ClosedView → List ℕ → Type 0
-IsChildGiven trace parent fork run text = IsRunOfChild trace parent fork run
-    × (text ≡ child_text trace.config (child_lines trace.lines fork.child) fork (inherited parent fork.version)
-    (child_history_of fork.version run.journal run.logs))
+-- the text of a child, by its fork and its closed run: that of its history
+abbrev pub text_of_run : Trace → List Entry → Fork × ClosedView → List ℕ
+text_of_run trace parent child = child_text trace.config (child_lines trace.lines child.0.child) child.0 (inherited parent child.0.version)
+    (child_history_of child.0.version child.1.journal child.1.logs)
 
--- what is given for closed runs of children, one after another: there is one run for each fork
-abbrev pub AreChildrenGiven : Trace → List Entry → List Fork → List ClosedView → List ℕ → Type 0
-AreChildrenGiven trace parent [] [] text = text ≡ []
-AreChildrenGiven trace parent (fork ∷ forks) (run ∷ runs) text = (first : List ℕ) × (rest : List ℕ) × (text ≡ first ++ rest)
-    × IsChildGiven trace parent fork run first × AreChildrenGiven trace parent forks runs rest
-AreChildrenGiven trace parent [] (run ∷ runs) text = ⊥
-AreChildrenGiven trace parent (fork ∷ forks) [] text = ⊥
+-- the forks of a closed run of the parent of a trace, by ascending child
+abbrev pub forks_of_run : Mode → Trace → ClosedView → List Fork
+forks_of_run mode trace parent = forks_of (parent_lines trace.lines) (history_of_run mode (parent_trace trace) parent)
 
--- with these closed runs a mode gives this text for a trace: first that of the parent, whose lines are those of threads that no line forks,
--- and then those of its children, by ascending number
+-- With these closed runs a mode gives this text for a trace. The first is of the parent, whose lines are those of threads that no line forks,
+-- and for each of its forks there is one of the child. The text is that of the parent's history, and then that of each child's.
 pub record GivesRuns (mode : Mode) (trace : Trace) (runs : List ClosedView) (text : List ℕ) : Type 0 where
   pub parent : ClosedView
   pub children : List ClosedView
-  pub first : List ℕ
-  pub rest : List ℕ
   pub runs_are : runs ≡ parent ∷ children
-  pub text_is : text ≡ first ++ rest
-  pub parent_is : IsGivenFor mode (parent_trace trace) parent first
-  pub children_are : AreChildrenGiven trace parent.journal
-      (forks_of (parent_lines trace.lines) (history_of_run mode (parent_trace trace) parent)) children rest
+  pub parent_is : IsLegalRun mode (parent_trace trace) parent
+  pub children_are : AllZip (IsRunOfChild trace parent.journal) (forks_of_run mode trace parent) children
+  pub text_is : text ≡ output_text trace.config (parent_lines trace.lines) (history_of_run mode (parent_trace trace) parent)
+      ++ flat_map (text_of_run trace parent.journal) (zip (forks_of_run mode trace parent) children)
 
 -- with these closed runs the generated trace of so many operations and a seed was run: once, in the order of its lines, with the list of the
 -- run after it
@@ -131,10 +124,6 @@ converted conversions.Steps = script_output
 converted (conversions.Query address) = query_answer address
 converted conversions.Retrace = retraced_of
 
--- the most bytes that the input of a conversion may have
-abbrev pub most_converted : Conversion → ℕ
-most_converted conversion = input_limit
-
 -- the table
 abbrev pub work_of : Job → Work
 work_of (jobs.Replay mode) = record {
@@ -146,7 +135,7 @@ work_of (jobs.Replay mode) = record {
 }
 work_of (jobs.Convert conversion) = record {
   mode = None;
-  reads = Some (most_converted conversion);
+  reads = Some input_limit;
   opens = false;
   fault = λ input. result_err (converted conversion input);
   gives = λ input runs text. (runs ≡ []) × (converted conversion input ≡ Ok text);

@@ -9,12 +9,12 @@ use Rattle.trace_reader.specs.Grammar.{trace_of}
 use Rattle.maps_read.specs.Mappings.{mapping_line}
 use Rattle.mm_space.specs.Closing.{ClosedView}
 use Rattle.vma_replay.specs.declared.words.Mode.TheVariants as modes
-use Rattle.output.specs.Output.{start_text, reply_text, serial_output}
+use Rattle.output.specs.Output.{item_start, reply_text, serial_output}
 use Rattle.vma_replay.specs.Replaying.{GivesRuns}
 
 -- the answer to the line of this number that maps an area: the address where the area begins, at this version
 abbrev pub address_line : ℕ → ℕ → Record → List ℕ
-address_line number version area = start_text (mapping_line number area) version ++ (reply_text (Addr (PAGE_SIZE * area.span.lo)) ++ codes "\n")
+address_line number version area = item_start (mapping_line number area) version ++ (reply_text (Addr (PAGE_SIZE * area.span.lo)) ++ codes "\n")
 
 -- such an answer for each area, with the numbers and the versions from these on
 abbrev pub address_lines : ℕ → ℕ → List Record → List ℕ

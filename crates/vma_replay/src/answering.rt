@@ -3,7 +3,7 @@ ghost use Rattle.std.specs.Prelude.{◌≡◌, ◌<◌, ◌^◌, ◌+◌, ◌-�
 ghost use Rattle.std.specs.Io.KnownBytes.{Keeps, IsAtEnd};
 ghost use Rattle.text_lexer.specs.declared.error.Cause.{Cause};
 ghost use Rattle.io_edge.specs.Edge.{FailedLast};
-ghost use Rattle.vma_replay.specs.Internal.Giving.{GivesThis, IsDone};
+ghost use Rattle.vma_replay.specs.Internal.Giving.{GivesThis, IsRunPrinted};
 ghost use Rattle.vma_replay.specs.Jobs.{IsInLimits, are_accepted, are_tried, job_of_run, job_of_words};
 ghost use Rattle.vma_replay.specs.Replaying.{most_of_words, opens_a_space, reads_the_source, work_of};
 ghost use Rattle.vma_replay.specs.Replaying.{status_of, ReadsEnough};
@@ -90,7 +90,7 @@ pub fn answer_without_space<S: Source, K: Sink>(
 /// Gives a sink a text that no run was made for.
 fn give_text<K: Sink>(sink: &mut K, text: &[u8]) -> Status
     requires { (K.seen sink.old).faults < 2 ^ 64 - 1 }
-    ensures { IsDone (GivesThis text.now) (K.seen sink.old) (K.seen sink.new) result [] }
+    ensures { IsRunPrinted (GivesThis text.now) (K.seen sink.old) (K.seen sink.new) result [] }
 {
     match give_all(sink, text) {
         Ok(()) => Status::Done,

@@ -3,7 +3,7 @@ ghost use Rattle.std.specs.Prelude.{◌≡◌, ◌<◌, ◌≤◌, [], All, IfOk
 ghost use Rattle.std.specs.Vec.{vec_capacity};
 ghost use Rattle.history.specs.Parents.{parent_lines};
 ghost use Rattle.trace_reader.specs.Values.{IsTraceValue};
-ghost use Rattle.vma_replay.specs.Internal.Families.{AreRunsOfChildren, IsFamily, IsForkOf, IsOfParent};
+ghost use Rattle.vma_replay.specs.Internal.Families.{AreRunsOfChildren, IsFamily, IsForkOf, IsParentJournal};
 ghost use Rattle.vma_replay.specs.Replaying.{IsRunOfChild};
 ghost use Rattle.vma_replay.specs.declared.forks.Fork.{Fork};
 
@@ -79,7 +79,7 @@ fn children_runs<R: Threads + Wait + Sync, G: Gate>(
     gate: &G,
 ) -> Result<Vec<Closed>, NoMemory>
     requires trace { IsTraceValue trace.now }
-    requires parent { IsOfParent trace.now.config parent.now }
+    requires parent { IsParentJournal trace.now.config parent.now }
     requires forks { All (IsForkOf trace.now.lines parent.now) forks.now }
     ensures { IfOk result (λ runs. AreRunsOfChildren trace.now parent.now forks.now runs.items) }
 {
@@ -98,7 +98,7 @@ fn run_in_turn<R: Wait>(
     forks: &[Fork],
 ) -> Result<Vec<Closed>, NoMemory>
     requires trace { IsTraceValue trace.now }
-    requires parent { IsOfParent trace.now.config parent.now }
+    requires parent { IsParentJournal trace.now.config parent.now }
     requires forks { All (IsForkOf trace.now.lines parent.now) forks.now }
     ensures { IfOk result (λ runs. AreRunsOfChildren trace.now parent.now forks.now runs.items) }
 {
@@ -120,12 +120,12 @@ fn run_at_once<R: Threads + Wait + Sync, G: Gate>(
     gate: &G,
 ) -> Result<Vec<Closed>, NoMemory>
     requires trace { IsTraceValue trace.now }
-    requires parent { IsOfParent trace.now.config parent.now }
+    requires parent { IsParentJournal trace.now.config parent.now }
     requires forks { All (IsForkOf trace.now.lines parent.now) forks.now }
     ensures { IfOk result (λ runs. AreRunsOfChildren trace.now parent.now forks.now runs.items) }
 {
     let worker = |place: usize| -> Result<Closed, NoMemory>
-        requires { (place < length forks.now) × IsTraceValue trace.now × IsOfParent trace.now.config parent.now
+        requires { (place < length forks.now) × IsTraceValue trace.now × IsParentJournal trace.now.config parent.now
             × All (IsForkOf trace.now.lines parent.now) forks.now }
         ensures { IfOk result (λ run. (fork : Fork) → slice_get forks.entry.now place ≡ Some fork
             → IsRunOfChild trace.entry.now parent.entry.now fork run) }
@@ -158,7 +158,7 @@ fn closed_child<R: Wait, T: Watcher<R>>(
     watcher: &T,
 ) -> Result<Closed, NoMemory>
     requires trace { IsTraceValue trace.now }
-    requires parent { IsOfParent trace.now.config parent.now }
+    requires parent { IsParentJournal trace.now.config parent.now }
     requires fork { IsForkOf trace.now.lines parent.now fork.now }
     ensures { IfOk result (IsRunOfChild trace.now parent.now fork.now) }
 {

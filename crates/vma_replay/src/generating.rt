@@ -4,7 +4,7 @@ ghost use Rattle.gen_load.specs.Loads.{load_trace};
 ghost use Rattle.lock_core.specs.Facts.{list_after};
 ghost use Rattle.trace_reader.specs.Values.{IsTraceValue};
 ghost use Rattle.vma_replay.specs.declared.words.Mode.TheVariants.{Serial};
-ghost use Rattle.vma_replay.specs.Internal.Giving.{GivesASummary, IsDoing, IsDone};
+ghost use Rattle.vma_replay.specs.Internal.Giving.{GivesASummary, IsDoing, IsRunPrinted};
 ghost use Rattle.vma_replay.specs.Replaying.{IsRunOf};
 
 use crate::replayed::{Replayed, Runs};
@@ -30,7 +30,7 @@ pub(crate) fn give_summary<R: Wait, K: Sink>(
 ) -> Replayed
     requires count { count ≤ MOST_OPERATIONS }
     requires sink { (K.seen sink.old).faults < 2 ^ 64 - 1 }
-    ensures { IsDone (GivesASummary count seed) (K.seen sink.old) (K.seen sink.new) result.status result.runs }
+    ensures { IsRunPrinted (GivesASummary count seed) (K.seen sink.old) (K.seen sink.new) result.status result.runs }
 {
     Replayed::of(alloc, summary_given(rt, alloc, count, seed, sink))
 }

@@ -1,7 +1,7 @@
 //! Runs of a trace that are given to a sink.
 ghost use Rattle.std.specs.Prelude.{◌<◌, ◌^◌, ◌-◌};
 ghost use Rattle.trace_reader.specs.Values.{IsTraceValue};
-ghost use Rattle.vma_replay.specs.Internal.Giving.{GivesAnOutput, IsDoing, IsDone};
+ghost use Rattle.vma_replay.specs.Internal.Giving.{GivesAnOutput, IsDoing, IsRunPrinted};
 
 use crate::families::closed_family;
 use crate::in_turn::alone_given;
@@ -27,7 +27,7 @@ pub(crate) fn give_run<R: Threads + Wait + Sync, K: Sink, G: Gate>(
 ) -> Replayed
     requires trace { IsTraceValue trace.now }
     requires sink { (K.seen sink.old).faults < 2 ^ 64 - 1 }
-    ensures { IsDone (GivesAnOutput mode trace.now) (K.seen sink.old) (K.seen sink.new) result.status result.runs }
+    ensures { IsRunPrinted (GivesAnOutput mode trace.now) (K.seen sink.old) (K.seen sink.new) result.status result.runs }
 {
     Replayed::of(alloc, run_given(rt, alloc, mode, sink, trace, gate))
 }

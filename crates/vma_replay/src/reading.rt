@@ -5,7 +5,7 @@ ghost use Rattle.text_lexer.specs.Lines.{input_limit};
 ghost use Rattle.text_lexer.specs.Reading.{IsErrorOf};
 ghost use Rattle.trace_reader.specs.Values.{IsTraceValue};
 ghost use Rattle.vma_replay.specs.Internal.Reading.{IsChecking, IsReading, IsTaking, taken_bytes};
-ghost use Rattle.vma_replay.specs.Replaying.{converted, most_converted};
+ghost use Rattle.vma_replay.specs.Replaying.{converted};
 
 use crate::status::Status;
 use crate::words::Conversion;
@@ -42,7 +42,7 @@ pub(crate) fn convert_source<S: Source>(
     conversion: Conversion,
 ) -> Result<Vec<u8>, Status>
     requires { (S.seen source.old).faults < 2 ^ 64 - 1 }
-    ensures { IsReading (converted conversion) (most_converted conversion) (S.seen source.old) (S.seen source.new) (taken_bytes result) }
+    ensures { IsReading (converted conversion) input_limit (S.seen source.old) (S.seen source.new) (taken_bytes result) }
 {
     let bytes = take_bytes(alloc, source, INPUT_LIMIT)?;
     Ok(convert(alloc, conversion, &bytes)?)

@@ -1,7 +1,7 @@
 //! Searches of a tree of spans and slots: free pages, and the areas beside a page.
 ghost use Rattle.std.specs.Prelude.{◌≡◌, ◌≤◌, MatchOption};
 ghost use Rattle.mm_types.specs.Searches.{IsGreatest, IsLeast, NonePasses};
-ghost use Rattle.maple_gap.specs.Gaps.{fits, first_from, last_before, slot_in};
+ghost use Rattle.maple_gap.specs.Gaps.{fits, first_pair_from, last_pair_before, slot_in};
 
 use super::SpanTree;
 use maple_gap::{before_slot, highest, lowest, next_slot};
@@ -50,14 +50,14 @@ impl SpanTree {
 
     /// The slot of the first pair that ends above a page. None exactly where there is none.
     pub fn next_slot(&self, page: Page) -> Option<Slot>
-        ensures { result ≡ slot_in (first_from self.now.pairs page.0) }
+        ensures { result ≡ slot_in (first_pair_from self.now.pairs page.0) }
     {
         next_slot(&self.nodes, &self.writer, &self.tree, page)
     }
 
     /// The slot of the last pair that begins below a page. None exactly where there is none.
     pub fn before_slot(&self, page: Page) -> Option<Slot>
-        ensures { result ≡ slot_in (last_before self.now.pairs page.0) }
+        ensures { result ≡ slot_in (last_pair_before self.now.pairs page.0) }
     {
         before_slot(&self.nodes, &self.writer, &self.tree, page)
     }

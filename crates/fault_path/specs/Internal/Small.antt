@@ -15,35 +15,35 @@ use Rattle.vma_lock.specs.declared.seats.WriterSeat.{WriterSeat}
 use Rattle.vma_lock.specs.Seats.{stage, HasTurn}
 
 -- the slots but the first are detached
-abbrev pub AreFree : List SlotState → Type 0
-AreFree slots = (slot : ℕ) → slot ≢ 0 → is_detached (slot_at slots slot).row ≡ true
+abbrev pub AreOthersDetached : List SlotState → Type 0
+AreOthersDetached slots = (slot : ℕ) → slot ≢ 0 → is_detached (slot_at slots slot).row ≡ true
 
 -- The writer between two calls: it has no turn, the list and the counters are those after the journal, and all
 -- slots but the first are detached.
-pub record IsSmall (view : View) (list : List Record) (counters : Counters) : Type 0 where
+pub record IsBetweenCalls (view : View) (list : List Record) (counters : Counters) : Type 0 where
   pub closed : view.writer_state.seq % 2 ≡ 0
   pub turn : view.turn ≡ None
   pub space : after view.config view.seen ≡ space_of list counters
-  pub free : AreFree view.writer_state.slots
+  pub free : AreOthersDetached view.writer_state.slots
 
 -- a row shows a list of at most one area
-abbrev pub ShowsOne : List Record → List ℕ → Type 0
-ShowsOne list row = ((list ≡ []) × (is_detached row ≡ true))
+abbrev pub ShowsOneArea : List Record → List ℕ → Type 0
+ShowsOneArea list row = ((list ≡ []) × (is_detached row ≡ true))
     ⊎ ((area : Record) × (list ≡ area ∷ []) × (packed area ≡ row) × (is_detached row ≡ false))
 
 -- the slot is marked, and nothing else changed but what the writer knows of its tries
-pub record IsMarking (old new : View) : Type 0 where
+pub record MarksSlot (old new : View) : Type 0 where
   pub config : new.config ≡ old.config
   pub seen : new.seen ≡ old.seen
   pub turn : new.turn ≡ old.turn
   pub writer_state : new.writer_state ≡ old.writer_state
 
 -- the reader is of the writer's table, holds no slot, and has its turn
-pub record IsBeside (seat : ReaderSeat) (writer : WriterSeat) : Type 0 where
+pub record IsIdleBeside (seat : ReaderSeat) (writer : WriterSeat) : Type 0 where
   pub same : seat.seat.table_id ≡ writer.seat.table_id
   pub out : stage seat ≡ Out
   pub turn : HasTurn seat
 
 -- so is each of these readers
-abbrev pub AreBeside : List ReaderSeat → WriterSeat → Type 0
-AreBeside seats writer = (at : ℕ) (seat : ReaderSeat) → slice_get seats at ≡ Some seat → IsBeside seat writer
+abbrev pub AreIdleBeside : List ReaderSeat → WriterSeat → Type 0
+AreIdleBeside seats writer = (at : ℕ) (seat : ReaderSeat) → slice_get seats at ≡ Some seat → IsIdleBeside seat writer

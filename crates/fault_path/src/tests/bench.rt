@@ -3,11 +3,11 @@ ghost use Rattle.std.specs.Prelude.{◌≡◌, ◌<◌, ◌≤◌, ◌^◌, ◌+
 ghost use Rattle.mm_types.specs.Config.{IsValidConfig};
 ghost use Rattle.area_rules.specs.Steps.{step, after};
 ghost use Rattle.lock_core.specs.Facts.{list_after};
-ghost use Rattle.vma_lock.specs.Views.{opened_view};
-ghost use Rattle.vma_lock.specs.Seats.{sight, journal, slots, IsClosed};
-ghost use Rattle.fault_path.specs.Internal.Small.{AreFree, ShowsOne, IsSmall};
-ghost use Rattle.fault_path.specs.Passes.{SitsAt, IsNewWriter};
-ghost use Rattle.fault_path.specs.Internal.Benches.{IsEntered};
+ghost use Rattle.vma_lock.specs.Views.{opened_lock_view};
+ghost use Rattle.vma_lock.specs.Seats.{lock_sight, journal, slots, HasNoOpenCall};
+ghost use Rattle.fault_path.specs.Internal.Small.{AreOthersDetached, ShowsOneArea, IsBetweenCalls};
+ghost use Rattle.fault_path.specs.Passes.{SitsAtTables, IsNewWriter};
+ghost use Rattle.fault_path.specs.Internal.Benches.{IsEntryMade};
 
 use super::leaf::publish_leaf;
 use super::row::row_of;
@@ -34,10 +34,10 @@ pub(super) struct Bench {
     pub(super) writer: WriterSeat,
     pub(super) list: AreaList,
     pub(super) counters: Counters,
-    pub ghost sits: { SitsAt view pass },
+    pub ghost sits: { SitsAtTables view pass },
     pub ghost table_is: { writer.seat.table_id ≡ view.table },
-    pub ghost config_is: { config ≡ (sight writer).config },
-    pub ghost kept: { IsSmall (sight writer) list counters },
+    pub ghost config_is: { config ≡ (lock_sight writer).config },
+    pub ghost kept: { IsBetweenCalls (lock_sight writer) list counters },
 }
 
 impl Bench {
@@ -115,10 +115,10 @@ fn make<R: Abort>(
     config: &Config,
 ) -> Result<(FaultView, Pass, WriterSeat, NodeWriter), NoMemory>
     requires config { IsValidConfig config.now }
-    ensures pass { IfOk result (λ made. SitsAt made.0 made.1) }
+    ensures pass { IfOk result (λ made. SitsAtTables made.0 made.1) }
     ensures tables { IfOk result (λ made. (made.2.seat.table_id ≡ made.0.table) × (made.3.writer_state.seat.table_id ≡ made.0.nodes)
         × (made.0.config ≡ config.now) × (made.0.callers ≡ 1)) }
-    ensures writer { IfOk result (λ made. sight made.2 ≡ opened_view config.now 1) }
+    ensures writer { IfOk result (λ made. lock_sight made.2 ≡ opened_lock_view config.now 1) }
     ensures nodes { IfOk result (λ made. IsNewWriter config.now 1 made.3) }
 {
     let (view, mut passes, writer, nodes) = FaultView::make(alloc, config, &[9])?;
@@ -138,17 +138,17 @@ fn enter(
     row: [u64; 4],
     page: Page,
 ) -> Option<Fast>
-    requires pass { SitsAt view.now pass.old }
+    requires pass { SitsAtTables view.now pass.old }
     requires table { writer.old.seat.table_id ≡ view.now.table }
-    requires closed { IsClosed writer.old × ((sight writer.old).turn ≡ None) }
+    requires closed { HasNoOpenCall writer.old × ((lock_sight writer.old).turn ≡ None) }
     requires caller { 64 ≤ entry.caller }
     requires room { length (journal writer.old) < 2 ^ 31 }
-    requires reply { entry.reply ≡ (step (sight writer.old).config (after (sight writer.old).config (journal writer.old)) entry.call).reply }
-    requires slots { AreFree (slots writer.old) }
-    requires shows { ShowsOne (list_after (sight writer.old).config (journal writer.old ++ entry ∷ [])) row }
-    ensures pass { SitsAt view.now pass.new }
+    requires reply { entry.reply ≡ (step (lock_sight writer.old).config (after (lock_sight writer.old).config (journal writer.old)) entry.call).reply }
+    requires slots { AreOthersDetached (slots writer.old) }
+    requires shows { ShowsOneArea (list_after (lock_sight writer.old).config (journal writer.old ++ entry ∷ [])) row }
+    ensures pass { SitsAtTables view.now pass.new }
     ensures table { writer.new.seat.table_id ≡ view.now.table }
-    ensures entered { IfSome result (λ fast. IsEntered (sight writer.old) (sight writer.new) entry) }
+    ensures entered { IfSome result (λ fast. IsEntryMade (lock_sight writer.old) (lock_sight writer.new) entry) }
 {
     view.table.begin(writer);
     let Ok(()) = view.table.try_mark(writer, Slot(0)) else {

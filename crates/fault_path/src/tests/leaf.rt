@@ -1,7 +1,7 @@
 //! A tree that is one leaf.
 ghost use Rattle.std.specs.Prelude.{◌≡◌, ◌<◌};
-ghost use Rattle.node_slots.specs.Seats.{Writes, writer_state};
-ghost use Rattle.fault_path.specs.Internal.Leaves.{IsOneLeaf};
+ghost use Rattle.node_slots.specs.Seats.{WritesNodeTable, writer_state};
+ghost use Rattle.fault_path.specs.Internal.Leaves.{IsTreeOfOneLeaf};
 
 use maple_node::Layout;
 use mm_types::{Page, Row, Slot};
@@ -9,8 +9,8 @@ use node_slots::{NodeTable, NodeWriter};
 
 /// Publishes a tree that pairs each page below an end with slot 0, in place of tree 0. None where no row is free.
 pub(super) fn publish_leaf(table: &NodeTable, writer: &mut NodeWriter, end: Page) -> Option<Row>
-    requires table { Writes writer.old table.now }
-    requires alone { IsOneLeaf writer.old 0 }
+    requires table { WritesNodeTable writer.old table.now }
+    requires alone { IsTreeOfOneLeaf writer.old 0 }
     requires number { (writer_state writer.old).tree.number ≡ 0 }
     requires end { 0 < end.0 }
 {

@@ -3,13 +3,13 @@ ghost use Rattle.std.specs.Prelude.{◌≡◌, true, false, IfSome};
 ghost use Rattle.mm_types.specs.Packed.{packed};
 ghost use Rattle.mm_types.specs.Records.{IsValid};
 ghost use Rattle.lock_core.specs.Rows.{is_detached};
-ghost use Rattle.fault_path.specs.Internal.Small.{ShowsOne};
+ghost use Rattle.fault_path.specs.Internal.Small.{ShowsOneArea};
 
 use mm_types::{AreaList, Record, pack};
 
 /// The row that shows a list of at most one area.
 pub(super) fn row_of(list: &AreaList) -> Option<[u64; 4]>
-    ensures { IfSome result (ShowsOne list.now) }
+    ensures { IfSome result (ShowsOneArea list.now) }
 {
     match list.items() {
         [] => Some([0; 4]),

@@ -20,8 +20,8 @@ use Rattle.history.specs.declared.checking.Walk.{Walk}
 use Rattle.history.specs.declared.items.Content.{Content}
 use Rattle.history.specs.declared.items.Content.TheVariants as contents
 use Rattle.history.specs.declared.items.Item.{Item}
-use Rattle.history.specs.Histories.{items_of, lines_of, journal_of, is_call, read_as, op_of, space_after, StandsAmong}
-use Rattle.history.specs.Checking.{AreGood, IsRefused}
+use Rattle.history.specs.Histories.{items_of, lines_of, journal_of, is_call, read_as, op_asked, space_after, StandsAmong}
+use Rattle.history.specs.Checking.{AreGood, IsHistoryRefused}
 use Rattle.history.specs.Coming.{ProgressView, IsProgress}
 
 -- whether a content is a list of areas, which alone takes memory to show
@@ -31,17 +31,17 @@ is_list (contents.Fault page access verdict) = false
 is_list (contents.List areas) = true
 
 -- what is expected, where a list is this one
-abbrev pub shown : List Record → Expected → Answer
-shown areas (expected.Call call reply) = answers.Call call reply
-shown areas (expected.Fault verdict) = answers.Fault verdict
-shown areas expected.List = answers.List areas
-shown areas expected.Nothing = answers.Nothing
+abbrev pub answer_expected : List Record → Expected → Answer
+answer_expected areas (expected.Call call reply) = answers.Call call reply
+answer_expected areas (expected.Fault verdict) = answers.Fault verdict
+answer_expected areas expected.List = answers.List areas
+answer_expected areas expected.Nothing = answers.Nothing
 
 -- an item has the version of its moment, goes after the reads before it, and is what a line asks for
 pub record IsNext (progress : ProgressView) (line : Option TraceLine) (item : Item) : Type 0 where
   pub version : item.version ≡ progress.version + (if is_call item.content then 1 else 0)
   pub order : is_call item.content ≡ false → progress.lowest ≤ item.caller
-  pub asked : IsSomeAnd line (λ line. read_as line.op ≡ op_of item.content)
+  pub asked : IsSomeAnd line (λ line. read_as line.op ≡ op_asked item.content)
 
 -- the address space after a line, if there is one
 abbrev pub space_after_line : Config → AddressSpace → Option TraceLine → AddressSpace
@@ -64,7 +64,7 @@ pub record HasBegun (config : Config) (start : List Entry) (begun : PlainView) :
   pub objects : begun.space.objects ≤ length config.files + length start
 
 -- a walk has come to a place of a history, and each item before it is good
-pub record IsWalked (case : Case) (place : ℕ) (walk : Walk) : Type 0 where
+pub record IsHistoryWalked (case : Case) (place : ℕ) (walk : Walk) : Type 0 where
   pub progress : IsProgress case.lines.now (take place case.items.now) walk.progress
   pub opened : walk.space.config ≡ case.config.now
   pub space : walk.space.space ≡ after case.config.now (case.start.now ++ journal_of (take place case.items.now))
@@ -75,6 +75,6 @@ pub record IsWalked (case : Case) (place : ℕ) (walk : Walk) : Type 0 where
   pub good : AreGood case.config.now case.start.now case.lines.now case.items.now place
 
 -- a history was refused rightly, or memory ran out
-abbrev pub IsToldRightly : Case → CheckError → Type 0
-IsToldRightly case (errors.Bad bad) = IsRefused case.config.now case.start.now case.lines.now case.items.now bad
-IsToldRightly case errors.NoMemory = Unit {0}
+abbrev pub IsRefusalRight : Case → CheckError → Type 0
+IsRefusalRight case (errors.Bad bad) = IsHistoryRefused case.config.now case.start.now case.lines.now case.items.now bad
+IsRefusalRight case errors.NoMemory = Unit {0}

@@ -9,18 +9,18 @@ use Rattle.live_session.specs.declared.status.Status.TheVariants as statuses
 use Rattle.live_session.specs.Sessions.{pieces_of}
 
 -- the bytes, how many of them were searched, of which none is a newline, and how many lines and reads there were
-pub record HeldView : Type 0 where
+pub record HeldLineView : Type 0 where
   pub bytes : List ℕ
   pub searched : ℕ
   pub turns : ℕ
 
 -- more turns were made, still as few as 64 bits count
-abbrev pub Turns : HeldView → HeldView → Type 0
+abbrev pub Turns : HeldLineView → HeldLineView → Type 0
 Turns old new = (old.turns < new.turns) × (new.turns < 2 ^ 64)
 
 -- one turn less: the last is that of the line which is at the front, or of the read which found the end
-abbrev pub without_turn : HeldView → HeldView
-without_turn held = record { bytes = held.bytes; searched = held.searched; turns = held.turns - 1 }
+abbrev pub with_one_turn_less : HeldLineView → HeldLineView
+with_one_turn_less held = record { bytes = held.bytes; searched = held.searched; turns = held.turns - 1 }
 
 -- what is kept of a line: all of one that is not too long, and of a longer one as much as shows that
 abbrev pub kept : List ℕ → List ℕ
@@ -35,20 +35,20 @@ abbrev pub HasNoNewline : List ℕ → Type 0
 HasNoNewline bytes = All (λ c. is_newline c ≡ false) bytes
 
 -- the first newline of bytes is behind so many of them
-pub record HasLine (bytes : List ℕ) (len : ℕ) : Type 0 where
+pub record HasNewlineAt (bytes : List ℕ) (len : ℕ) : Type 0 where
   pub within : len < length bytes
   pub newline : get_or bytes len 0 ≡ 10
   pub single : HasNoNewline (take len bytes)
 
 -- Of bytes some were answered, and so many of the others were searched, of which none is a newline. There are no more than a line that is kept and
 -- what one read gives.
-pub record IsHeld (bytes : List ℕ) (at searched : ℕ) : Type 0 where
+pub record AreBytesHeld (bytes : List ℕ) (at searched : ℕ) : Type 0 where
   pub within : at + searched ≤ length bytes
   pub none : HasNoNewline (take searched (drop at bytes))
   pub few : length bytes ≤ MOST_KEPT + PIECE
 
 -- what reading more results in: more bytes behind the others, of which none was searched, or the end; or the source failed, or memory ran out once bytes were taken
-abbrev pub TakesMore : SourceView → SourceView → HeldView → HeldView → Result Bool Status → Type 0
+abbrev pub TakesMore : SourceView → SourceView → HeldLineView → HeldLineView → Result Bool Status → Type 0
 TakesMore old new held after (Ok true) = (more : List ℕ) × Consumes old.left new.left more × (new.faults ≡ old.faults)
     × (after ≡ record { bytes = held.bytes ++ more; searched = held.searched; turns = held.turns }) × (0 < length more)
 TakesMore old new held after (Ok false) = IsAtEnd new.left × Consumes old.left new.left [] × (new.faults ≡ old.faults) × (after ≡ held)

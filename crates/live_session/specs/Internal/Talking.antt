@@ -14,9 +14,9 @@ use Rattle.live_session.specs.declared.answering.Stop.{Stop}
 use Rattle.live_session.specs.declared.answering.Stop.TheVariants as stops
 use Rattle.live_session.specs.declared.status.Status.{Status}
 use Rattle.live_session.specs.declared.status.Status.TheVariants as statuses
-use Rattle.live_session.specs.Sessions.{Opened, Answer, Session, begun, after_operation, operation_text, operated, answers, session_after}
+use Rattle.live_session.specs.Sessions.{Opened, LineAnswer, Session, session_begun, after_operation, operation_text, operated, answers, session_after}
 use Rattle.live_session.specs.Conversing.{IsConversation}
-use Rattle.live_session.specs.Internal.Held.{HeldView, HasLine, HasNoNewline, kept_pieces, without_turn}
+use Rattle.live_session.specs.Internal.Held.{HeldLineView, HasNewlineAt, HasNoNewline, kept_pieces, with_one_turn_less}
 
 -- the session of what the lines so far say and of the space that is open
 abbrev pub session_of : Says → Option Opened → Session
@@ -26,18 +26,18 @@ session_of says opened = record { count = says.count; so_far = so_far says.build
 pub record IsReached (session : Session) : Type 0 where
   pub lines : List (List ℕ)
   pub few : length lines < 2 ^ 64 - 1
-  pub now : session ≡ session_after begun lines
+  pub now : session ≡ session_after session_begun lines
 
 -- the space that is open, if one is, has room for one operation more
-abbrev pub HasRoom : Option Opened → Type 0
-HasRoom None = Unit {0}
-HasRoom (Some now) = (now.space.objects < 2 ^ 32 - 1) × (now.version < 2 ^ 64 - 1)
+abbrev pub SpaceHasRoom : Option Opened → Type 0
+SpaceHasRoom None = Unit {0}
+SpaceHasRoom (Some now) = (now.space.objects < 2 ^ 32 - 1) × (now.version < 2 ^ 64 - 1)
 
 -- What answering a line results in: its answer was appended, and the session is that after it; or no space is open, and an operation is to
 -- be answered.
-abbrev pub AnswersLine : Answer → List ℕ → List ℕ → Session → Option Stop → Type 0
+abbrev pub AnswersLine : LineAnswer → List ℕ → List ℕ → Session → Option Stop → Type 0
 AnswersLine answer old new after None = (new ≡ old ++ answer.text) × (after ≡ answer.session)
-AnswersLine answer old new after (Some stops.New) = (new ≡ old ++ answer.text) × (begun ≡ answer.session)
+AnswersLine answer old new after (Some stops.New) = (new ≡ old ++ answer.text) × (session_begun ≡ answer.session)
 AnswersLine answer old new after (Some (stops.Operation line)) = (new ≡ old) × (operated after line ≡ answer) × (after.opened ≡ None)
 AnswersLine answer old new after (Some stops.End) = ⊥
 
@@ -55,7 +55,7 @@ Operates None after line old new None = ⊥
 
 -- So far: of the bytes that were taken the whole lines were answered, and the rest is held, whatever comes behind it: of each line as much as
 -- is kept. Of the answers some were given, and the piece has the others. A turn was paid by a byte that was taken or by one that was answered.
-pub record Talked (source source' : SourceView) (sink sink' : SinkView) (held : HeldView) (piece : List ℕ) (session : Session) : Type 0 where
+pub record Talked (source source' : SourceView) (sink sink' : SinkView) (held : HeldLineView) (piece : List ℕ) (session : Session) : Type 0 where
   pub taken : List ℕ
   pub lines : List (List ℕ)
   pub given : List ℕ
@@ -63,13 +63,13 @@ pub record Talked (source source' : SourceView) (sink sink' : SinkView) (held : 
   pub cut : (more : List ℕ) → kept_pieces (taken ++ more) ≡ lines ++ kept_pieces (held.bytes ++ more)
   pub calm : source'.faults ≡ source.faults
   pub gave : Gave sink sink' given
-  pub split : given ++ piece ≡ answers begun lines
-  pub now : session ≡ session_after begun lines
+  pub split : given ++ piece ≡ answers session_begun lines
+  pub now : session ≡ session_after session_begun lines
   pub few : length lines ≤ held.turns
   pub paid : held.turns + length held.bytes ≤ 2 * length taken
 
 -- so far, where neither the source nor the sink has failed as often as 64 bits count
-pub record IsTalking (source' : SourceView) (sink' : SinkView) (held : HeldView) (piece : List ℕ) (session : Session) : Type 0 where
+pub record IsTalking (source' : SourceView) (sink' : SinkView) (held : HeldLineView) (piece : List ℕ) (session : Session) : Type 0 where
   pub source : SourceView
   pub sink : SinkView
   pub talked : Talked source source' sink sink' held piece session
@@ -77,28 +77,28 @@ pub record IsTalking (source' : SourceView) (sink' : SinkView) (held : HeldView)
   pub sink_room : sink.faults < 2 ^ 64 - 1
 
 -- what looking for the next line results in: it is held; or the input ended, and all answers were given; or the session ended
-abbrev pub Finds : SourceView → SourceView → SinkView → SinkView → HeldView → List ℕ → Session → Result (Option ℕ) Status → Type 0
-Finds source source' sink sink' held piece session (Ok (Some len)) = Talked source source' sink sink' (without_turn held) piece session
-    × HasLine held.bytes len × (0 < held.turns) × (held.turns < 2 ^ 64)
-Finds source source' sink sink' held piece session (Ok None) = Talked source source' sink sink' (without_turn held) piece session × (piece ≡ [])
+abbrev pub FindsLine : SourceView → SourceView → SinkView → SinkView → HeldLineView → List ℕ → Session → Result (Option ℕ) Status → Type 0
+FindsLine source source' sink sink' held piece session (Ok (Some len)) = Talked source source' sink sink' (with_one_turn_less held) piece session
+    × HasNewlineAt held.bytes len × (0 < held.turns) × (held.turns < 2 ^ 64)
+FindsLine source source' sink sink' held piece session (Ok None) = Talked source source' sink sink' (with_one_turn_less held) piece session × (piece ≡ [])
     × IsAtEnd source'.left × HasNoNewline held.bytes
-Finds source source' sink sink' held piece session (Err status) = IsConversation status source source' sink sink'
+FindsLine source source' sink sink' held piece session (Err status) = IsConversation status source source' sink sink'
 
 -- what answering lines results in: an address space ended, and another begins; or an operation opens one; or the session ended
-abbrev pub Ends : SourceView → SourceView → SinkView → SinkView → HeldView → List ℕ → Session → Result Stop Status → Type 0
-Ends source source' sink sink' held piece session (Ok stops.New) = Talked source source' sink sink' held piece begun
+abbrev pub Ends : SourceView → SourceView → SinkView → SinkView → HeldLineView → List ℕ → Session → Result Stop Status → Type 0
+Ends source source' sink sink' held piece session (Ok stops.New) = Talked source source' sink sink' held piece session_begun
 Ends source source' sink sink' held piece session (Ok (stops.Operation line)) =
     Talked source source' sink sink' held (piece ++ (operated session line).text) (operated session line).session × (session.opened ≡ None)
 Ends source source' sink sink' held piece session (Ok stops.End) = IsConversation statuses.Done source source' sink sink'
 Ends source source' sink sink' held piece session (Err status) = IsConversation status source source' sink sink'
 
 -- what answering the lines of an address space results in: another begins; or the session ended
-abbrev pub EndsSpace : SourceView → SourceView → SinkView → SinkView → HeldView → List ℕ → Result Bool Status → Type 0
-EndsSpace source source' sink sink' held piece (Ok true) = Talked source source' sink sink' held piece begun
+abbrev pub EndsSpace : SourceView → SourceView → SinkView → SinkView → HeldLineView → List ℕ → Result Bool Status → Type 0
+EndsSpace source source' sink sink' held piece (Ok true) = Talked source source' sink sink' held piece session_begun
 EndsSpace source source' sink sink' held piece (Ok false) = IsConversation statuses.Done source source' sink sink'
 EndsSpace source source' sink sink' held piece (Err status) = IsConversation status source source' sink sink'
 
 -- what a session ended with
-abbrev pub status_of : {T : Type 0} → Result T Status → Status
-status_of (Ok done) = statuses.Done
-status_of (Err status) = status
+abbrev pub session_end : {T : Type 0} → Result T Status → Status
+session_end (Ok done) = statuses.Done
+session_end (Err status) = status

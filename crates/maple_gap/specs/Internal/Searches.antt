@@ -3,7 +3,7 @@ use Rattle.std.specs.Prelude.{ℕ, zero, suc, ◌≡◌, ◌<◌, ◌≤◌, ◌
 use Rattle.std.specs.Option.{option_or, option_and}
 use Rattle.maple_node.specs.declared.item.NodeItem.{NodeItem}
 use Rattle.maple_node.specs.Nodes.{item_gap}
-use Rattle.maple_node.specs.Levels.{is_leaf, read, AllFrom, IsNode, level_of, item_at}
+use Rattle.maple_node.specs.Levels.{is_leaf, items_at, AllFrom, IsNode, level_of, item_at}
 use Rattle.maple_node.specs.Trees.{pairs_from, ApartFrom}
 use Rattle.maple_node.specs.declared.place.Place.{Place}
 use Rattle.node_slots.specs.declared.tree.Tree.{Tree}
@@ -17,8 +17,8 @@ use Rattle.maple_gap.specs.declared.branch.Branch.{Branch}
 use Rattle.mm_types.specs.Searches.{IsGreatest, IsLeast, NonePasses}
 
 -- whether an item may have room: its largest gap is long enough, and so is its part in the window
-unfoldable pub may_have : Window → Bool → ℕ → NodeItem → Bool
-may_have window leaf start item = nat_le window.len (item_gap leaf start item)
+unfoldable pub may_have_room : Window → Bool → ℕ → NodeItem → Bool
+may_have_room window leaf start item = nat_le window.len (item_gap leaf start item)
     && nat_le window.len (min item.end window.hi - max start window.lo)
 
 -- the least or the greatest start in an entry that has room
@@ -28,7 +28,7 @@ edge High window start item = min item.end window.hi - window.len
 
 -- the start that is sought in one entry
 unfoldable pub spot : Side → Window → ℕ → NodeItem → Option ℕ
-spot side window start item = if may_have window true start item then Some (edge side window start item) else None
+spot side window start item = if may_have_room window true start item then Some (edge side window start item) else None
 
 -- of what was found in lower and in higher pages, that which is sought
 abbrev pub pick : Side → Option ℕ → Option ℕ → Option ℕ
@@ -56,13 +56,13 @@ nothing_chosen = record { first = None; second = None }
 unfoldable pub chosen_from : Side → Window → Bool → Choice → ℕ → List NodeItem → Choice
 chosen_from side window leaf choice start [] = choice
 chosen_from side window leaf choice start (item ∷ items) = chosen_from side window leaf
-    (if may_have window leaf start item then chosen side choice (record { start = start; item = item }) else choice) item.end items
+    (if may_have_room window leaf start item then chosen side choice (record { start = start; item = item }) else choice) item.end items
 
 -- the nodes under an item that begins at a page, for so many levels
 unfoldable pub IsUnder : (ℕ → List ℕ) → ℕ → ℕ → ℕ → NodeItem → Type 0
 IsUnder at limit zero start item = start < item.end
 IsUnder at limit (suc level) start item = IsNode at (is_leaf level) limit start item
-    × AllFrom (IsUnder at limit level) start (read at (is_leaf level) item.word)
+    × AllFrom (IsUnder at limit level) start (items_at at (is_leaf level) item.word)
 
 -- a branch of a tree: all that lies under its item meets the layout
 pub record IsBranch (at : ℕ → List ℕ) (branch : Branch) : Type 0 where
@@ -110,7 +110,7 @@ IsFar High window place = place.item.end ≤ window.hi
 -- a branch that is searched where the one before had no room
 pub record IsSpare (side : Side) (window : Window) (at : ℕ → List ℕ) (spare : Branch) : Type 0 where
   pub branch : IsBranch at spare
-  pub room : may_have window (is_leaf spare.level) spare.place.start spare.place.item ≡ true
+  pub room : may_have_room window (is_leaf spare.level) spare.place.start spare.place.item ≡ true
   pub far : IsFar side window spare.place
 
 -- the whole tree of the writer's view as a branch whose item may tell any gap, where tree 0 is one gap
@@ -124,7 +124,7 @@ pub record IsRootOf (writer : NodeWriter) (tree : Tree) (root : Branch) : Type 0
   pub pairs : pairs_from 0 (entries_under (words_at writer) root) ≡ pairs_now writer tree
 
 -- the greatest or the least number that passes, or none where none does
-abbrev pub IsAnswer : Side → (ℕ → Bool) → Option ℕ → Type 0
-IsAnswer side passes None = NonePasses passes
-IsAnswer Low passes (Some n) = IsLeast passes n
-IsAnswer High passes (Some n) = IsGreatest passes n
+abbrev pub IsOutermost : Side → (ℕ → Bool) → Option ℕ → Type 0
+IsOutermost side passes None = NonePasses passes
+IsOutermost Low passes (Some n) = IsLeast passes n
+IsOutermost High passes (Some n) = IsGreatest passes n

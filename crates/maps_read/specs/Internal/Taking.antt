@@ -5,7 +5,7 @@ use Rattle.mm_types.specs.declared.config.TheConstants.{MOST_FILES}
 use Rattle.mm_types.specs.Records.{IsValid}
 use Rattle.maps_read.specs.declared.maps.MapsLine.{MapsLine}
 use Rattle.maps_read.specs.declared.taking.Taken as code
-use Rattle.maps_read.specs.FileLines.{file_place}
+use Rattle.maps_read.specs.FileLines.{first_line_of_file}
 use Rattle.maps_read.specs.Retracing.{Taken, may_map}
 
 -- what was taken, without where its lines lie in memory
@@ -19,7 +19,7 @@ pub record IsPrinted (area : Record) : Type 0 where
   pub object : area.object ≤ MOST_FILES
 
 -- at most 1,024 lines show a file first, each opens one, and each area is one that a line of a trace maps
-pub record IsTaken (taken : Taken) : Type 0 where
+pub record AreLinesTaken (taken : Taken) : Type 0 where
   pub few : length taken.named ≤ MOST_FILES
   pub both : length taken.opened ≡ length taken.named
   pub one : All (λ files. length files ≡ 1) taken.opened
@@ -33,4 +33,4 @@ may_take_at taken None line = nat_lt (length taken.named) MOST_FILES
 
 -- whether memory may be taken for a line: a line without a name may be mapped
 abbrev pub may_take : Taken → MapsLine → Bool
-may_take taken line = if nat_eq (length line.name) 0 then may_map taken.areas 0 line else may_take_at taken (file_place taken.named line) line
+may_take taken line = if nat_eq (length line.name) 0 then may_map taken.areas 0 line else may_take_at taken (first_line_of_file taken.named line) line

@@ -15,11 +15,11 @@ use Rattle.lock_core.specs.Core.{slot_at, detached_row}
 use Rattle.split_merge.specs.declared.plan.Change.{Change}
 use Rattle.split_merge.specs.declared.plan.Change.TheVariants.{Detach, Alter, Add}
 use Rattle.split_merge.specs.Plans.{olds_of, news_of, without, applied, IsPlanOf, IsReal}
-use Rattle.split_merge.specs.Internal.Sorted.{BeginsAscend}
+use Rattle.split_merge.specs.Sorted.{BeginsAscend}
 use Rattle.area_slots.specs.declared.leaving.Leaving.{Leaving}
-use Rattle.area_slots.specs.Slots.{SlotSet, gone_by, gone_after, times, times_left}
+use Rattle.area_slots.specs.Slots.{SlotSet, gone_by, gone_after, times_of_slot, times_left}
 use Rattle.vma_lock.specs.declared.view.View.{View}
-use Rattle.vma_lock.specs.Seats.{config_of, slots_of, Writes, sight, journal, slots, IsOpen, IsClosed}
+use Rattle.vma_lock.specs.Seats.{table_config, slots_of, WritesVmaTable, lock_sight, journal, slots, HasOpenCall, HasNoOpenCall}
 use Rattle.area_tree.specs.SpanTrees.{enough}
 use Rattle.area_tree.specs.declared.shown.ShownArea.{ShownArea}
 use Rattle.area_tree.specs.AreaTrees.{AreaTreeView, shown_of, areas_of, times_shown, AreasRise, IsEndOf, IsRoomFor}
@@ -41,7 +41,7 @@ adds_of changes = sum_by adds changes
 pub record IsFreed (elapsed : ℕ) (old new : SlotSet) : Type 0 where
   pub count : new.count ≡ old.count
   pub sum : length new.free + length new.left ≡ length old.free + length old.left
-  pub each : (slot : ℕ) → times slot new.free + times_left slot new.left ≡ times slot old.free + times_left slot old.left
+  pub each : (slot : ℕ) → times_of_slot slot new.free + times_left slot new.left ≡ times_of_slot slot old.free + times_left slot old.left
   pub left : new.left ≡ gone_after elapsed old.left
 
 -- A tree of areas with its slots, of which so many can be free: each that left did so with a tree up to the present one, and is free
@@ -51,13 +51,13 @@ pub record CanFree (areas : AreaTreeView) (set : SlotSet) (wanted : ℕ) : Type 
   pub enough : wanted ≤ length set.free + length set.left
 
 -- scans of the pins of readers changed the tree of areas alone in what they found
-abbrev pub IsScanned : AreaTreeView → AreaTreeView → Type 0
-IsScanned old new = new
+abbrev pub IsAreaTreeScanned : AreaTreeView → AreaTreeView → Type 0
+IsAreaTreeScanned old new = new
     ≡ record old { tree = record old.tree { elapsed = new.tree.elapsed; scans = new.tree.scans; pins = new.tree.pins; free = new.tree.free } }
 
 -- the areas are in a tree as before but for its pairs and free rows, with other records
-abbrev pub IsSameTree : AreaTreeView → AreaTreeView → Type 0
-IsSameTree old new = new ≡ record old {
+abbrev pub HasSameAreaTree : AreaTreeView → AreaTreeView → Type 0
+HasSameAreaTree old new = new ≡ record old {
   tree = record old.tree { pairs = new.tree.pairs; changed = new.tree.changed; free = new.tree.free };
   records = new.records;
   sealed = new.sealed;
@@ -88,7 +88,7 @@ abbrev pub CanStore : AreaTreeView → List ShownArea → Type 0
 CanStore areas moved = (areas.tree.roomy ≡ true) × CanHold areas.tree.areas areas.tree.limit (shown_of areas ++ moved)
 
 -- the writer's view but for its slots and its tries
-pub record IsBeside (old new : View) : Type 0 where
+pub record DiffersInSlots (old new : View) : Type 0 where
   pub config : new.config ≡ old.config
   pub seen : new.seen ≡ old.seen
   pub turn : new.turn ≡ old.turn
@@ -96,13 +96,13 @@ pub record IsBeside (old new : View) : Type 0 where
 
 -- a slot was marked and has this row, and nothing else changed
 pub record IsWritten (old : View) (slot : ℕ) (row : List ℕ) (new : View) : Type 0 where
-  pub beside : IsBeside old new
+  pub beside : DiffersInSlots old new
   pub slots : new.writer_state.slots ≡ slice_set old.writer_state.slots slot (record { lock_seq = old.writer_state.seq; row = row })
 
 -- an open call may change the store
 pub record CanChange (store : AreaStore) : Type 0 where
-  pub table : Writes store.writer store.table
-  pub open_call : IsOpen store.writer
+  pub table : WritesVmaTable store.writer store.table
+  pub open_call : HasOpenCall store.writer
   pub count : store.slots.count ≡ slots_of store.table
   pub records : store.slots.count ≡ slots_for store.areas.tree.areas
   pub hangs : Hangs (slots store.writer) (shown_of store.areas ++ store.moved.items) store.slots
@@ -111,9 +111,9 @@ pub record CanChange (store : AreaStore) : Type 0 where
 -- what each change leaves as it was, and that it wrote this row in one slot
 pub record Changes (old new : AreaStore) (slot : ℕ) (row : List ℕ) : Type 0 where
   pub table : new.table ≡ old.table
-  pub mine : Writes new.writer new.table
-  pub written : IsWritten (sight old.writer) slot row (sight new.writer)
-  pub same : IsSameTree old.areas new.areas
+  pub mine : WritesVmaTable new.writer new.table
+  pub written : IsWritten (lock_sight old.writer) slot row (lock_sight new.writer)
+  pub same : HasSameAreaTree old.areas new.areas
   pub moved_room : vec_capacity new.moved ≡ vec_capacity old.moved
 
 -- the set after a slot left with a tree
@@ -146,8 +146,8 @@ Carries old new (Add area) tree = (slot : ℕ) × Changes old new slot (packed a
     × (new.moved.items ≡ old.moved.items ++ record { slot = slot; area = area } ∷ []) × (old.slots ≡ record new.slots { free = new.slots.free ++ slot ∷ [] })
 
 -- an area is shown, at some slot
-abbrev pub IsShown : List ShownArea → Record → Type 0
-IsShown shown area = (slot : ℕ) × Contains shown (record { slot = slot; area = area })
+abbrev pub IsAreaShown : List ShownArea → Record → Type 0
+IsAreaShown shown area = (slot : ℕ) × Contains shown (record { slot = slot; area = area })
 
 -- a slot that shows an area is as it was
 abbrev pub IsStill : List SlotState → List SlotState → List ShownArea → Record → Type 0
@@ -161,20 +161,20 @@ ChangesAtMost count old new = (changed : List ℕ) × (length changed ≤ count)
 -- the other changes may take away is in the tree, and its slots are as they were; so are the free slots.
 pub record IsChanging (start store : AreaStore) (done : List Change) (tree : ℕ) : Type 0 where
   pub table : store.table ≡ start.table
-  pub mine : Writes store.writer store.table
-  pub beside : IsBeside (sight start.writer) (sight store.writer)
+  pub mine : WritesVmaTable store.writer store.table
+  pub beside : DiffersInSlots (lock_sight start.writer) (lock_sight store.writer)
   pub hangs : Hangs (slots store.writer) (shown_of store.areas ++ store.moved.items) store.slots
   pub count : store.slots.count ≡ start.slots.count
   pub ascend : BeginsAscend (areas_of start.areas)
   pub rise : AreasRise start.areas.tree.limit 0 (areas_of start.areas)
   pub areas : (weight : Record → ℕ) → sum_by weight (areas_of start.areas) + sum_by weight (news_of done)
       ≡ sum_by weight (olds_of done) + weigh weight (shown_of store.areas ++ store.moved.items)
-  pub there : All (IsShown (shown_of store.areas)) (without (olds_of done) (areas_of start.areas))
+  pub there : All (IsAreaShown (shown_of store.areas)) (without (olds_of done) (areas_of start.areas))
   pub still : All (IsStill (slots start.writer) (slots store.writer) (shown_of store.areas)) (without (olds_of done) (areas_of start.areas))
-  pub unused : (slot : ℕ) → 0 < times slot store.slots.free → slot_at (slots store.writer) slot ≡ slot_at (slots start.writer) slot
+  pub unused : (slot : ℕ) → 0 < times_of_slot slot store.slots.free → slot_at (slots store.writer) slot ≡ slot_at (slots start.writer) slot
   pub free : length store.slots.free + adds_of done ≡ length start.slots.free
   pub leaving : All (λ leaving. leaving.tree ≤ tree) store.slots.left
-  pub same : IsSameTree start.areas store.areas
+  pub same : HasSameAreaTree start.areas store.areas
   pub moved_room : vec_capacity store.moved ≡ vec_capacity start.moved
   pub few_moved : length store.moved.items ≤ length (news_of done)
   pub few : ChangesAtMost (length done) (slots start.writer) (slots store.writer)
@@ -189,10 +189,10 @@ pub record IsPackable (area : Record) : Type 0 where
   pub object : area.object < 2 ^ 32
 
 -- a change brings an area that can be packed, and no area in its own place
-abbrev pub IsSane : Change → Type 0
-IsSane (Detach area) = Unit {0}
-IsSane (Alter area changed) = IsPackable area × IsPackable changed × (area ≢ changed)
-IsSane (Add area) = IsPackable area
+abbrev pub IsSaneChange : Change → Type 0
+IsSaneChange (Detach area) = Unit {0}
+IsSaneChange (Alter area changed) = IsPackable area × IsPackable changed × (area ≢ changed)
+IsSaneChange (Add area) = IsPackable area
 
 -- Between two calls the present tree is the one that is built, its number is that of the entries, and slots left with trees up to
 -- it. Nothing moved, and there is room for what may.
@@ -200,11 +200,11 @@ pub record KeepsTree (store : AreaStore) : Type 0 where
   pub shown : store.areas.tree.shown ≡ store.areas.tree.pairs
   pub still : store.areas.tree.changed ≡ false
   pub number : store.areas.tree.number ≡ length (journal store.writer)
-  pub areas : store.areas.tree.areas ≡ (config_of store.table).areas
-  pub limit : store.areas.tree.limit ≡ page_of (config_of store.table).limit
+  pub areas : store.areas.tree.areas ≡ (table_config store.table).areas
+  pub limit : store.areas.tree.limit ≡ page_of (table_config store.table).limit
   pub leaving : All (λ leaving. leaving.tree ≤ store.areas.tree.number) store.slots.left
   pub moved : store.moved.items ≡ []
-  pub spare : vec_capacity store.moved ≡ (config_of store.table).areas
+  pub spare : vec_capacity store.moved ≡ (table_config store.table).areas
 
 -- The tree is prepared, as many slots are free as some changes need, and nothing else changed. The pin of each reader was looked at in
 -- one scan or more, and in one alone where as many rows and slots were free already.
@@ -223,9 +223,9 @@ pub record IsReadied (old new : AreaStore) (changes : List Change) : Type 0 wher
 -- The store between two calls: no call is open, the writer is of the table and of its configuration, each slot of the table is
 -- free, left or shows one area, and the present tree is the one that is built.
 pub record IsAtRest (store : AreaStore) : Type 0 where
-  pub table : Writes store.writer store.table
-  pub config : (sight store.writer).config ≡ config_of store.table
-  pub closed : IsClosed store.writer
+  pub table : WritesVmaTable store.writer store.table
+  pub config : (lock_sight store.writer).config ≡ table_config store.table
+  pub closed : HasNoOpenCall store.writer
   pub count : store.slots.count ≡ slots_of store.table
   pub records : store.slots.count ≡ slots_for store.areas.tree.areas
   pub hangs : Hangs (slots store.writer) (shown_of store.areas) store.slots
@@ -234,14 +234,14 @@ pub record IsAtRest (store : AreaStore) : Type 0 where
 -- The entry has the reply of its step after the journal, and the plan makes the list after the entry of that after the
 -- journal, by real changes that can be written. The list is then in order and within the limit, and its areas before can be packed.
 pub record IsEntered (store : AreaStore) (changes : List Change) (entry : Entry) : Type 0 where
-  pub reply : entry.reply ≡ (step (config_of store.table) (after (config_of store.table) (journal store.writer)) entry.call).reply
+  pub reply : entry.reply ≡ (step (table_config store.table) (after (table_config store.table) (journal store.writer)) entry.call).reply
   pub plan : IsPlanOf (areas_of store.areas) changes
-  pub result : applied changes (areas_of store.areas) ≡ list_after (config_of store.table) (journal store.writer ++ entry ∷ [])
+  pub result : applied changes (areas_of store.areas) ≡ list_after (table_config store.table) (journal store.writer ++ entry ∷ [])
   pub real : IsReal changes
-  pub sane : All IsSane changes
+  pub sane : All IsSaneChange changes
   pub packable : All IsPackable (areas_of store.areas)
-  pub few_after : length (applied changes (areas_of store.areas)) ≤ (config_of store.table).areas
-  pub rise_after : AreasRise (page_of (config_of store.table).limit) 0 (applied changes (areas_of store.areas))
+  pub few_after : length (applied changes (areas_of store.areas)) ≤ (table_config store.table).areas
+  pub rise_after : AreasRise (page_of (table_config store.table).limit) 0 (applied changes (areas_of store.areas))
 
 -- A call's plan made its list of the areas, and its entry stands last in the journal. At most as many slots as it has changes are
 -- other than before. A slot that was marked shows another row, an area of both lists keeps its slot, a slot that left after the

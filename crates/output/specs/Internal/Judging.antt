@@ -8,11 +8,11 @@ use Rattle.trace_reader.specs.declared.trace.Trace.{Trace}
 use Rattle.trace_reader.specs.declared.trace.TraceLine.{TraceLine}
 use Rattle.area_rules.specs.Steps.{after}
 use Rattle.history.specs.declared.items.Item.{Item}
-use Rattle.history.specs.Histories.{caller_of, journal_of, line_of, StandsAmong}
+use Rattle.history.specs.Histories.{caller_of, journal_of, line_answered, StandsAmong}
 use Rattle.history.specs.Checking.{AreGood, IsGood, next_line}
 use Rattle.history.specs.Coming.{IsProgress, HasNoneLeft}
 use Rattle.history.specs.SpaceLines.{AreSpaceLines}
-use Rattle.output.specs.Output.{start_text}
+use Rattle.output.specs.Output.{item_start}
 use Rattle.output.specs.declared.given.Given.{Given}
 use Rattle.output.specs.declared.judgement.Judgement.{Judgement}
 use Rattle.output.specs.declared.judgement.Judgement.TheVariants.{Legal, Bad}
@@ -20,7 +20,7 @@ use Rattle.output.specs.declared.judging.Walk.{Walk}
 use Rattle.output.specs.declared.stop.Stop.{Stop}
 use Rattle.output.specs.declared.stop.Stop.TheVariants as stops
 use Rattle.output.specs.TextLines.{text_lines}
-use Rattle.output.specs.Judgements.{items_text, IsRightText, IsFirstBad}
+use Rattle.output.specs.Judgements.{items_text, IsRightText, IsFirstBadOutputLine}
 
 -- a text was compared up to the end of these bytes, which are whole lines
 pub record HasRead (text before : List ℕ) (given : Given) : Type 0 where
@@ -52,7 +52,7 @@ abbrev pub trace_over : Config → List TraceLine → Trace
 trace_over config lines = record { config = config; lines = lines }
 
 -- A walk over the lines of one space has compared the text of some good items, and each right text that agrees up to here begins with these items.
-pub record IsWalked (trace : Trace) (text : List ℕ) (walk : Walk) : Type 0 where
+pub record IsTextWalked (trace : Trace) (text : List ℕ) (walk : Walk) : Type 0 where
   pub valid : IsValidConfig trace.config
   pub kept : AreSpaceLines trace.lines
   pub items : List Item
@@ -67,8 +67,8 @@ pub record IsWalked (trace : Trace) (text : List ℕ) (walk : Walk) : Type 0 whe
       → take walk.given.line (text_lines right) ≡ take walk.given.line (text_lines text) → (more : List Item) × (others ≡ items ++ more)
 
 -- whatever items were compared, a line is left
-abbrev pub IsLeft : List TraceLine → Walk → Type 0
-IsLeft lines walk = (items : List Item) → IsProgress lines items walk.progress → HasNoneLeft lines items → ⊥
+abbrev pub IsLineLeft : List TraceLine → Walk → Type 0
+IsLineLeft lines walk = (items : List Item) → IsProgress lines items walk.progress → HasNoneLeft lines items → ⊥
 
 -- or none is
 abbrev pub IsEnded : List TraceLine → Walk → Type 0
@@ -86,7 +86,7 @@ pub record TellsGoodItem (trace : Trace) (before : List Item) (rest : List ℕ) 
   pub line : TraceLine
   pub item : Item
   pub number : TellsNumber rest line.number
-  pub answers : line_of trace.lines before item ≡ Some line
+  pub answers : line_answered trace.lines before item ≡ Some line
   pub good : IsGood trace.config [] trace.lines before item
 
 -- a line can come next, and the text goes on as its item begins
@@ -96,7 +96,7 @@ pub record Begins (lines : List TraceLine) (before : List Item) (rest : List ℕ
   pub told : IfSome line.after (StandsAmong lines before)
   pub version : ℕ
   pub behind : List ℕ
-  pub begins : rest ≡ start_text line version ++ behind
+  pub begins : rest ≡ item_start line version ++ behind
 
 -- no line can come next, as the text tells
 abbrev pub NoneComes : List TraceLine → List Item → List ℕ → Type 0
@@ -111,9 +111,9 @@ pub record TheOneComes (lines : List TraceLine) (before : List Item) (rest : Lis
   pub tells : (other : TraceLine) (teller : ℕ) → Begins lines before rest other teller → other.number ≡ line.number
 
 -- the first bad line was told, or memory ran out
-abbrev pub IsToldRightly : Trace → List ℕ → Stop → Type 0
-IsToldRightly trace text (stops.Bad line) = IsFirstBad trace text line
-IsToldRightly trace text stops.NoMemory = Unit {0}
+abbrev pub IsStopRight : Trace → List ℕ → Stop → Type 0
+IsStopRight trace text (stops.Bad line) = IsFirstBadOutputLine trace text line
+IsStopRight trace text stops.NoMemory = Unit {0}
 
 -- what is judged of a text that was walked over
 abbrev pub judgement_of : Result (Unit {0}) Stop → Result Judgement NoMemory

@@ -11,10 +11,10 @@ use Rattle.output.specs.declared.answers.Answer.{Answer}
 use Rattle.output.specs.declared.answers.Answer.TheVariants as answers
 
 -- an answer as the content of an item, where a list is this one
-abbrev pub shown : List Record → Answer → Content
-shown areas (answers.Called call reply) = contents.Called call reply
-shown areas (answers.Fault page access verdict) = contents.Fault page access verdict
-shown areas answers.List = contents.List areas
+abbrev pub content_of_answer : List Record → Answer → Content
+content_of_answer areas (answers.Called call reply) = contents.Called call reply
+content_of_answer areas (answers.Fault page access verdict) = contents.Fault page access verdict
+content_of_answer areas answers.List = contents.List areas
 
 -- whether bytes have no newline
 abbrev pub has_none : List ℕ → Bool
@@ -22,13 +22,13 @@ has_none [] = true
 has_none (c ∷ text) = not (is_newline c) && has_none text
 
 -- bytes without a newline
-pub record IsPlain (text : List ℕ) : Type 0 where
+pub record IsOfOneLine (text : List ℕ) : Type 0 where
   pub none : has_none text ≡ true
 
 -- bytes with one newline, which ends them
 pub record IsLine (line : List ℕ) : Type 0 where
   pub body : List ℕ
-  pub plain : IsPlain body
+  pub plain : IsOfOneLine body
   pub is : line ≡ body ++ codes "\n"
 
 -- what the first line of an item has behind its start, where its line forks this child, if it forks one

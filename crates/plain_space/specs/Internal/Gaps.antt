@@ -3,7 +3,7 @@ use Rattle.std.specs.Prelude.{ℕ, zero, suc, ◌≡◌, ◌≤◌, ◌<◌, ◌
 use Rattle.mm_types.specs.declared.area.Record.{Record}
 use Rattle.area_rules.specs.Placement.{is_free}
 use Rattle.plain_space.specs.declared.chunk.TheConstants.{MOST_IN_CHUNK}
-use Rattle.split_merge.specs.Internal.Sorted.{BeginsAscend, EndsAscend}
+use Rattle.split_merge.specs.Sorted.{BeginsAscend, EndsAscend}
 
 -- the gap between an area and the first of the others; 0 where there is none
 abbrev pub gap_behind : Record → List Record → ℕ

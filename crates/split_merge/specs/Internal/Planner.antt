@@ -9,7 +9,7 @@ use Rattle.split_merge.specs.declared.plan.Change.TheVariants.{Detach, Alter, Ad
 use Rattle.split_merge.specs.declared.becoming.Becoming.{Becoming}
 use Rattle.split_merge.specs.declared.planner.Merging.{Merging}
 use Rattle.split_merge.specs.declared.planner.Planner.{Planner}
-use Rattle.split_merge.specs.Internal.Becoming.{low_of, high_of, parts_left}
+use Rattle.split_merge.specs.Internal.Becoming.{lower_span, upper_span, parts_left}
 use Rattle.split_merge.specs.Plans.{PlanView, is_near_either}
 
 -- what the planner meets, by ascending page: the first page of an old area, a part that takes its place (or the new area), or an old area that it passes over
@@ -70,9 +70,9 @@ left_over None None new = None
 left_over None (Some old) new = if nat_lt old.span.lo new.span.hi then None else Some old
 
 -- the area that is being made, where no more parts of the pending old area come: it takes the place of that, if it has its first page and no old area yet
-abbrev pub settled : Option Record → Option Merging → Option Merging
-settled pending None = None
-settled pending (Some merging) = Some (record { replaces = option_or merging.replaces (covered pending merging.area); area = merging.area })
+abbrev pub merging_behind : Option Record → Option Merging → Option Merging
+merging_behind pending None = None
+merging_behind pending (Some merging) = Some (record { replaces = option_or merging.replaces (covered pending merging.area); area = merging.area })
 
 -- the old area that goes then
 abbrev pub unsettled : Option Record → Option Merging → Option Record
@@ -91,10 +91,10 @@ planned_with pending (Some merging) part = if joins merging.area part then detac
 
 -- what is planned for what comes, with this old area pending and this area being made
 abbrev pub along : Option Record → Option Merging → List Event → List Change
-along pending merging [] = detaching (unsettled pending merging) ++ closing (settled pending merging)
-along pending merging (Event.Begins area ∷ events) = detaching (unsettled pending merging) ++ along (Some area) (settled pending merging) events
+along pending merging [] = detaching (unsettled pending merging) ++ closing (merging_behind pending merging)
+along pending merging (Event.Begins area ∷ events) = detaching (unsettled pending merging) ++ along (Some area) (merging_behind pending merging) events
 along pending merging (Event.Comes part ∷ events) = planned_with pending merging part ++ along (left pending part) (Some (merging_with pending merging part)) events
-along pending merging (Event.Passed area ∷ events) = (detaching (unsettled pending merging) ++ closing (settled pending merging)) ++ along None None events
+along pending merging (Event.Passed area ∷ events) = (detaching (unsettled pending merging) ++ closing (merging_behind pending merging)) ++ along None None events
 
 -- the new area in its place among what comes
 abbrev pub come_in : Record → List Event → List Event
@@ -133,8 +133,8 @@ abbrev pub reaching : Planner → ℕ → List Change
 reaching planner page = reaching_with planner.coming planner page
 
 -- for how many areas a planner may still plan a change
-abbrev pub held : Planner → ℕ
-held planner = option_len planner.coming + (option_len planner.pending + option_len planner.merging)
+abbrev pub changes_left : Planner → ℕ
+changes_left planner = option_len planner.coming + (option_len planner.pending + option_len planner.merging)
 
 -- at most how many changes are planned for what comes
 abbrev pub weight : List Event → ℕ
@@ -146,13 +146,13 @@ weight (Event.Passed area ∷ events) = weight events
 -- the planner goes along these: what it plans then and later is what it would have planned for these and what comes later
 pub record GoesAlong (events : List Event) (planner next : Planner) (old new : PlanView) : Type 0 where
   pub planned : (later : List Event) → new.changes ++ planned next later ≡ old.changes ++ planned planner (events ++ later)
-  pub within : length new.changes + held next ≤ length old.changes + (held planner + weight events)
+  pub within : length new.changes + changes_left next ≤ length old.changes + (changes_left planner + weight events)
   pub room : new.room ≡ old.room
   pub coming : (next.coming ≡ None) ⊎ (next.coming ≡ planner.coming)
 
 -- what an area brings: it is passed over where it is not near a span whose pages change
 unfoldable pub events_at : Becoming → Record → List Event
-events_at becoming area = if is_near_either (low_of becoming) (high_of becoming) area
+events_at becoming area = if is_near_either (lower_span becoming) (upper_span becoming) area
     then Event.Begins area ∷ map Event.Comes (parts_left becoming area)
     else Event.Passed area ∷ []
 

@@ -12,7 +12,7 @@ use Rattle.mm_types.specs.Rows.{first_row}
 use Rattle.area_rules.specs.Mremap.{moves_to, lengthens, old_range, has_room, new_place, mremap_rows}
 use Rattle.area_rules.specs.Laws.{moved_range}
 use Rattle.split_merge.specs.declared.plan.Change.{Change}
-use Rattle.split_merge.specs.Plans.{Makes, IsLocalToEither, IsKept}
+use Rattle.split_merge.specs.Plans.{Makes, IsLocalToEither, IsPlannedFor}
 
 -- no test of the request refuses the call, and this area has the first page of the old range
 pub record IsAccepted (config : Config) (areas : List Record) (args : MremapArgs) (area : Record) : Type 0 where
@@ -23,7 +23,7 @@ pub record IsAccepted (config : Config) (areas : List Record) (args : MremapArgs
 pub record IsAdmitted (config : Config) (bounds : Bounds) (most : ℕ) (areas : List Record) (args : MremapArgs) (area : Record) : Type 0 where
   pub valid : IsValidConfig config
   pub numbers : bounds ≡ bounds_of config
-  pub kept : IsKept bounds most areas
+  pub kept : IsPlannedFor bounds most areas
   pub accepted : IsAccepted config areas args area
 
 -- the range goes elsewhere: to a fixed place, or since it grows where it has no room

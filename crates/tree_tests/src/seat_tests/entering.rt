@@ -7,7 +7,7 @@ ghost use Rattle.lock_core.specs.declared.stage.Stage.TheVariants.{Out};
 ghost use Rattle.lock_core.specs.Facts.{list_after};
 ghost use Rattle.lock_core.specs.Rows.{is_detached};
 ghost use Rattle.vma_lock.specs.Views.{mark_at};
-ghost use Rattle.vma_lock.specs.Seats.{slots_of, IsOf, Writes, view, seen, HasTurn, sight, journal, slots, stage, IsHeld, IsOpen, IsClosed};
+ghost use Rattle.vma_lock.specs.Seats.{slots_of, IsOfVmaTable, WritesVmaTable, lock_view, seen, HasTurn, lock_sight, journal, slots, stage, HoldsSlot, HasOpenCall, HasNoOpenCall};
 ghost use Rattle.tree_tests.specs.Small.{AreFree, ShowsOne, IsMarking};
 
 use mm_types::{AreaList, Entry, Record, Slot, pack};
@@ -26,15 +26,15 @@ pub(super) fn enter_held<R: Wait + Abort>(
     entry: Entry,
     row: [u64; 4],
 ) -> u64
-    requires tables { Writes writer.old table.now × IsOf seat.old table.now }
-    requires closed { IsClosed writer.old × ((sight writer.old).turn ≡ None) }
-    requires turn { HasTurn seat.old × (entry.caller ≡ (view seat.old).caller) }
-    requires held { IsHeld (stage seat.old) }
+    requires tables { WritesVmaTable writer.old table.now × IsOfVmaTable seat.old table.now }
+    requires closed { HasNoOpenCall writer.old × ((lock_sight writer.old).turn ≡ None) }
+    requires turn { HasTurn seat.old × (entry.caller ≡ (lock_view seat.old).caller) }
+    requires held { HoldsSlot (stage seat.old) }
     requires room { length (journal writer.old) < 2 ^ 31 }
-    requires reply { entry.reply ≡ (step (sight writer.old).config (after (sight writer.old).config (journal writer.old)) entry.call).reply }
+    requires reply { entry.reply ≡ (step (lock_sight writer.old).config (after (lock_sight writer.old).config (journal writer.old)) entry.call).reply }
     requires slots { AreFree (slots writer.old) }
-    requires shows { ShowsOne (list_after (sight writer.old).config (journal writer.old ++ entry ∷ [])) row }
-    ensures tables { Writes writer.new table.now × IsOf seat.new table.now }
+    requires shows { ShowsOne (list_after (lock_sight writer.old).config (journal writer.old ++ entry ∷ [])) row }
+    ensures tables { WritesVmaTable writer.new table.now × IsOfVmaTable seat.new table.now }
     ensures out { stage seat.new ≡ Out }
     ensures journal { journal writer.new ≡ journal writer.old ++ entry ∷ [] }
     ensures seen { seen seat.new ≡ journal writer.new }
@@ -54,11 +54,11 @@ pub(super) fn enter_held<R: Wait + Abort>(
 
 /// Marks a slot once no reader holds it.
 fn mark<R: Wait>(rt: &R, table: &VmaTable, writer: &mut WriterSeat, slot: Slot)
-    requires table { Writes writer.old table.now }
-    requires open { IsOpen writer.old }
+    requires table { WritesVmaTable writer.old table.now }
+    requires open { HasOpenCall writer.old }
     requires slot { slot.0 < slots_of table.now }
-    ensures table { Writes writer.new table.now }
-    ensures marked { IsMarking (mark_at (sight writer.old) slot.0 0) (sight writer.new) }
+    ensures table { WritesVmaTable writer.new table.now }
+    ensures marked { IsMarking (mark_at (lock_sight writer.old) slot.0 0) (lock_sight writer.new) }
 {
     for _ in rt.forever() {
         if table.try_mark(writer, slot).is_ok() {

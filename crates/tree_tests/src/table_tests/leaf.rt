@@ -2,7 +2,7 @@
 ghost use Rattle.std.specs.Prelude.{◌≡◌, ◌<◌, ◌≤◌, []};
 ghost use Rattle.maple_node.specs.Words.{slot_word};
 ghost use Rattle.node_slots.specs.Opening.{IsFreeFrom};
-ghost use Rattle.node_slots.specs.Seats.{Writes, sight, writer_state, free_of, left_of, row_count};
+ghost use Rattle.node_slots.specs.Seats.{WritesNodeTable, node_sight, writer_state, free_of, retired_rows, row_count};
 ghost use Rattle.tree_tests.specs.Leaves.{IsOneLeaf};
 
 use maple_node::Layout;
@@ -31,18 +31,18 @@ pub(super) struct OneLeaf {
     row: Row,
     /// The number of the present tree.
     tree: u64,
-    ghost kept: { Writes writer table × IsOneLeaf writer row.0 },
+    ghost kept: { WritesNodeTable writer table × IsOneLeaf writer row.0 },
     ghost number: { (writer_state writer).tree.number ≡ tree },
 }
 
 impl OneLeaf {
     /// The writer of a new table.
     pub(super) fn new(table: NodeTable, writer: NodeWriter) -> OneLeaf
-        requires table { Writes writer table }
+        requires table { WritesNodeTable writer table }
         requires rows { row_count writer ≡ 8 }
         requires free { IsFreeFrom 1 8 (free_of writer) }
-        requires left { left_of writer ≡ [] }
-        requires slots { (sight writer).size.slots ≡ 4 }
+        requires left { retired_rows writer ≡ [] }
+        requires slots { (node_sight writer).size.slots ≡ 4 }
         requires number { (writer_state writer).tree.number ≡ 0 }
     {
         OneLeaf {

@@ -1,5 +1,5 @@
 //! A reader with a handle of its table.
-ghost use Rattle.node_slots.specs.Seats.{IsOf, IsClosed};
+ghost use Rattle.node_slots.specs.Seats.{IsOfNodeTable, IsClosed};
 ghost use Rattle.tree_tests.specs.Leaves.{AreBeside, IsInside};
 
 use maple_node::Root;
@@ -11,7 +11,7 @@ use node_slots::{NodeSeat, NodeTable, NodeWriter};
 pub(super) struct Walker {
     table: NodeTable,
     seat: NodeSeat,
-    ghost kept: { IsOf seat table × IsClosed seat },
+    ghost kept: { IsOfNodeTable seat table × IsClosed seat },
 }
 
 /// A reader that is open, with the root that it loaded.
@@ -77,7 +77,7 @@ impl Inside {
 
 /// Opens a reader, and loads the root.
 fn enter(table: &NodeTable, seat: &mut NodeSeat) -> Root
-    requires table { IsOf seat.old table.now }
+    requires table { IsOfNodeTable seat.old table.now }
     requires closed { IsClosed seat.old }
     ensures { IsInside seat.new table.now result.row.0 }
 {

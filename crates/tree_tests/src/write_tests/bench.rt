@@ -1,7 +1,7 @@
 //! A tree in a table of its own, with the table's writer.
 ghost use Rattle.std.specs.Prelude.{◌≡◌, ◌<◌, ◌≤◌, ◌+◌, ◌*◌, true, length};
 ghost use Rattle.maple_node.specs.Words.{slot_word};
-ghost use Rattle.node_slots.specs.Seats.{Writes, free_of};
+ghost use Rattle.node_slots.specs.Seats.{WritesNodeTable, free_of};
 
 use maple_write::{publish_tree, store};
 use mm_types::{NoMemory, Page, Row, Slot, Span, Steps};
@@ -113,7 +113,7 @@ fn is_ready(
     span: Span,
     slot: Option<Slot>,
 ) -> bool
-    requires { Writes writer.now nodes.now }
+    requires { WritesNodeTable writer.now nodes.now }
     ensures free { result ≡ true → 4 * tree.now.height + 4 ≤ length (free_of writer.now) }
     ensures span { result ≡ true → span.hi ≤ tree.now.limit.0 }
     ensures slot { result ≡ true → slot_word slot ≤ 4096 }

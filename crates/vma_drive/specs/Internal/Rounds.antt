@@ -42,26 +42,26 @@ abbrev pub tells_from : ℕ → ℕ → List Telling → ℕ
 tells_from round caller tellings = count_by (λ telling. nat_le round telling.round && nat_eq telling.teller caller) tellings
 
 -- The lines of a caller that a pass ran are those of lower rounds.
-pub record IsCut (rounds places : List ℕ) (round : ℕ) (pass : PassView) : Type 0 where
+pub record RanLowerRounds (rounds places : List ℕ) (round : ℕ) (pass : PassView) : Type 0 where
   pub before : (index : ℕ) → index < length (own_by pass) → slice_index rounds (slice_index places index) < round
   pub from : (index : ℕ) → length (own_by pass) ≤ index → index < length places → round ≤ slice_index rounds (slice_index places index)
 
 -- the next line of a pass is of this round or of a lower one
-abbrev pub HasLine : List ℕ → List ℕ → ℕ → PassView → Type 0
-HasLine places rounds round pass = (length (own_by pass) < length places) × (slice_index rounds (slice_index places (length (own_by pass))) ≤ round)
+abbrev pub HasLineByRound : List ℕ → List ℕ → ℕ → PassView → Type 0
+HasLineByRound places rounds round pass = (length (own_by pass) < length places) × (slice_index rounds (slice_index places (length (own_by pass))) ≤ round)
 
 -- the caller of this number has a line next that is of this round or of a lower one
 abbrev pub IsBusy : List (Vec ℕ Global) → List ℕ → ℕ → List PassView → ℕ → Type 0
 IsBusy places rounds round passes caller = (pass : PassView) × (own : Vec ℕ Global) × (slice_get passes caller ≡ Some pass)
-    × (slice_get places caller ≡ Some own) × HasLine own.items rounds round pass
+    × (slice_get places caller ≡ Some own) × HasLineByRound own.items rounds round pass
 
 -- no caller has such a line next
-abbrev pub IsWhole : List (Vec ℕ Global) → List ℕ → ℕ → List PassView → Type 0
-IsWhole places rounds round passes = (caller : ℕ) → ¬ IsBusy places rounds round passes caller
+abbrev pub HasNoLineNext : List (Vec ℕ Global) → List ℕ → ℕ → List PassView → Type 0
+HasNoLineNext places rounds round passes = (caller : ℕ) → ¬ IsBusy places rounds round passes caller
 
 -- where callers are shared out to so many threads, as many neighbours to each, no two busy ones have the same thread
-abbrev pub AreApart : List (Vec ℕ Global) → List ℕ → ℕ → List PassView → ℕ → Type 0
-AreApart places rounds round passes threads = (caller gap : ℕ) → 0 < gap → IsBusy places rounds round passes caller
+abbrev pub HaveThreadsApart : List (Vec ℕ Global) → List ℕ → ℕ → List PassView → ℕ → Type 0
+HaveThreadsApart places rounds round passes threads = (caller gap : ℕ) → 0 < gap → IsBusy places rounds round passes caller
     → IsBusy places rounds round passes (caller + gap) → length passes ≤ threads * gap
 
 -- A pass went on with the lines of its caller, none of them past this round.
@@ -93,6 +93,6 @@ pub record AtRound (name : SpaceId) (lines : List TraceLine)
   pub owed_all : length owed ≡ length passes
   pub has : (caller : ℕ) (pass : PassView) → slice_get passes caller ≡ Some pass → HasRun (lines_of lines caller) pass (slice_index owed caller)
   pub cut : (caller : ℕ) (pass : PassView) (own : Vec ℕ Global) → slice_get passes caller ≡ Some pass → slice_get places caller ≡ Some own
-      → IsCut rounds own.items round pass
+      → RanLowerRounds rounds own.items round pass
   pub enough : (caller : ℕ) → caller < length passes → length (lines_of lines caller) + tells_from round caller tellings ≤ slice_index owed caller
   pub told : AreToldBy lines passes

@@ -1,5 +1,6 @@
 -- The closed runs of a parent and of its children, and what their text is made of.
 use Rattle.std.specs.Prelude.{ℕ, ◌≡◌, ◌≤◌, ◌<◌, List, [], ◌∷◌, ◌++◌, length, All, Contains}
+use Rattle.std.specs.List.{AllZip}
 use Rattle.mm_types.specs.declared.call.Entry.{Entry}
 use Rattle.mm_types.specs.declared.config.Config.{Config}
 use Rattle.trace_reader.specs.declared.limits.TheConstants.{MOST_LINES}
@@ -22,7 +23,7 @@ use Rattle.vma_replay.specs.Forks.{forks_of}
 use Rattle.vma_replay.specs.Replaying.{IsRunOf, IsRunOfChild, history_of_run}
 
 -- the journal of a parent, from which children can begin: it is legal, of the callers of a trace, and no longer than a trace
-pub record IsOfParent (config : Config) (journal : List Entry) : Type 0 where
+pub record IsParentJournal (config : Config) (journal : List Entry) : Type 0 where
   pub legal : IsLegalJournal config journal
   pub callers : All (λ entry. entry.caller < MOST_THREADS) journal
   pub few : length journal ≤ MOST_LINES
@@ -34,10 +35,7 @@ pub record IsForkOf (lines : List TraceLine) (journal : List Entry) (fork : Fork
 
 -- closed runs of the children of a trace, one for each fork
 abbrev pub AreRunsOfChildren : Trace → List Entry → List Fork → List ClosedView → Type 0
-AreRunsOfChildren trace parent [] [] = Unit {0}
-AreRunsOfChildren trace parent (fork ∷ forks) (run ∷ runs) = IsRunOfChild trace parent fork run × AreRunsOfChildren trace parent forks runs
-AreRunsOfChildren trace parent [] (run ∷ runs) = ⊥
-AreRunsOfChildren trace parent (fork ∷ forks) [] = ⊥
+AreRunsOfChildren trace parent forks runs = AllZip (IsRunOfChild trace parent) forks runs
 
 -- the text of a child, by its closed run
 abbrev pub text_of_child : Trace → Fork → ClosedView → List ℕ

@@ -6,7 +6,7 @@ use Rattle.mm_space.specs.Closing.{ClosedView}
 use Rattle.trace_reader.specs.declared.trace.Trace.{Trace}
 use Rattle.history.specs.Parents.{parent_trace}
 use Rattle.output.specs.declared.error.PrintError.{PrintError}
-use Rattle.output.specs.Giving.{Gave, IsCut}
+use Rattle.output.specs.Giving.{Gave, IsCutOff}
 use Rattle.vma_replay.specs.declared.status.Status.{Status}
 use Rattle.vma_replay.specs.declared.status.Status.TheVariants as statuses
 use Rattle.vma_replay.specs.declared.words.Mode.{Mode}
@@ -21,7 +21,7 @@ use Rattle.vma_replay.specs.Summaries.{summary_text}
 abbrev pub IsCutShort : (List ClosedView → List ℕ → Type 0) → SinkView → SinkView → Status → Type 0
 IsCutShort gives old new status = ((status ≡ statuses.NoMemory) × (new ≡ old))
     ⊎ ((runs : List ClosedView) × (text : List ℕ) × gives runs text
-    × (error : PrintError) × (status ≡ status_of_print error) × IsCut old new [] text error)
+    × (error : PrintError) × (status ≡ status_of_print error) × IsCutOff old new [] text error)
 
 -- What doing a piece of work results in: it is done, with these closed runs, and a text was given; or it ended early.
 abbrev pub IsDoing : (List ClosedView → List ℕ → Type 0) → SinkView → SinkView → Result (List ClosedView) Status → Type 0
@@ -29,18 +29,18 @@ IsDoing gives old new (Ok runs) = (text : List ℕ) × gives runs text × Gave o
 IsDoing gives old new (Err status) = IsCutShort gives old new status
 
 -- The same by the answer and by the closed runs that are kept.
-abbrev pub IsDone : (List ClosedView → List ℕ → Type 0) → SinkView → SinkView → Status → List ClosedView → Type 0
-IsDone gives old new statuses.Done runs = (new.faults ≡ old.faults) × (text : List ℕ) × gives runs text
+abbrev pub IsRunPrinted : (List ClosedView → List ℕ → Type 0) → SinkView → SinkView → Status → List ClosedView → Type 0
+IsRunPrinted gives old new statuses.Done runs = (new.faults ≡ old.faults) × (text : List ℕ) × gives runs text
     × Appends old.written new.written text
-IsDone gives old new statuses.WriteFault runs = (new.faults ≡ old.faults + 1) × FailedLast new.just_failed × (runs ≡ [])
+IsRunPrinted gives old new statuses.WriteFault runs = (new.faults ≡ old.faults + 1) × FailedLast new.just_failed × (runs ≡ [])
     × (made : List ClosedView) × (text : List ℕ) × gives made text × (count : ℕ) × (count < length text)
     × Appends old.written new.written (take count text)
-IsDone gives old new statuses.NoMemory runs = (new.faults ≡ old.faults) × (runs ≡ [])
+IsRunPrinted gives old new statuses.NoMemory runs = (new.faults ≡ old.faults) × (runs ≡ [])
     × (Keeps old.written new.written ⊎ ((made : List ClosedView) × (text : List ℕ) × gives made text
     × (count : ℕ) × Appends old.written new.written (take count text)))
-IsDone gives old new statuses.Words runs = ⊥
-IsDone gives old new (statuses.Trace line cause) runs = ⊥
-IsDone gives old new statuses.ReadFault runs = ⊥
+IsRunPrinted gives old new statuses.Words runs = ⊥
+IsRunPrinted gives old new (statuses.Trace line cause) runs = ⊥
+IsRunPrinted gives old new statuses.ReadFault runs = ⊥
 
 -- in `serial` a text begins with the output of the parent's lines in their order
 abbrev pub BeginsAsSerial : Mode → Trace → List ℕ → Type 0

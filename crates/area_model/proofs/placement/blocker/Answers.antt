@@ -4,7 +4,7 @@ use Rattle.std.proofs.lemmas.Iterator.{YieldsList-from_slice}
 use Rattle.std.proofs.lemmas.Iterator.Search.{find_from_yields_List}
 use Rattle.mm_types.specs.declared.area.Record.{Record}
 use Rattle.area_rules.specs.Placement.{}
-use Rattle.area_rules.specs.Internal.Blockers.{blocker}
+use Rattle.area_rules.specs.Blockers.{blocker}
 use Rattle.area_model.proofs.placement.blocker.Goals as goal
 
 pub returns : goal.returns

@@ -1,9 +1,9 @@
 -- For `protect_changes_the_prefix`: its goals.
-use Rattle.area_rules.proofs.ProtectLaws.{stop_is, prefix_canonical, page_map-prefix, prefix_unique}
+use Rattle.area_rules.proofs.ProtectLaws.{the_stop, prefix_canonical, page_map-prefix, prefix_unique}
 use Rattle.area_rules.proofs.laws.protect_changes_the_prefix.Goals as goal
 
 pub returns-clause-stop : goal.returns-clause-stop
-returns-clause-stop c = stop_is
+returns-clause-stop c = the_stop
 
 pub returns-clause-prefix_canonical : goal.returns-clause-prefix_canonical
 returns-clause-prefix_canonical c = prefix_canonical

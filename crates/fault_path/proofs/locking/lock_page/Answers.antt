@@ -7,7 +7,7 @@ use Rattle.mm_types.specs.declared.slot.Slot.{Slot}
 use Rattle.vma_lock.specs.declared.seats.ReaderSeat.{ReaderSeat}
 use Rattle.vma_lock.specs.Seats as seats
 use Rattle.node_slots.specs.declared.view.Size.{Size}
-use Rattle.node_slots.specs.Seats.{view}
+use Rattle.node_slots.specs.Seats.{node_view}
 use Rattle.fault_path.specs.declared.fast.Miss.{Miss}
 use Rattle.fault_path.specs.Locking.{GoesOn}
 use Rattle.fault_path.proofs.Walking.{slot_within, loaded_now}
@@ -18,14 +18,14 @@ use Rattle.fault_path.proofs.locking.lock_page.Goals.{in-Some, in-None}
 pub walk-found-requires-clause-loaded : goal.walk-found-requires-clause-loaded
 walk-found-requires-clause-loaded c =
     let root = c.root-root.ensures.shown in
-    loaded_now (view c.open.new.seat) (view c.root-root.new.seat) c.root-root.result root.0 root.1 root.2 root.3 root.4
+    loaded_now (node_view c.open.new.seat) (node_view c.root-root.new.seat) c.root-root.result root.0 root.1 root.2 root.3 root.4
 
 pub lock_slot-locked-requires-clause-slot : goal.lock_slot-locked-requires-clause-slot
 lock_slot-locked-requires-clause-slot c =
     let root = c.root-root.ensures.shown in
-    let loaded = loaded_now (view c.open.new.seat) (view c.root-root.new.seat) c.root-root.result root.0 root.1 root.2 root.3 root.4 in
+    let loaded = loaded_now (node_view c.open.new.seat) (node_view c.root-root.new.seat) c.root-root.result root.0 root.1 root.2 root.3 root.4 in
     let pairs = sym (c.walk-found.ensures.slot loaded.shown loaded.snapshot) ∙ ap (option_map (λ (slot : Slot). slot.0)) c.in-Some.is in
-    let below = slot_within (view c.root-root.new.seat) c.root-root.result c.args.page.0 c.in-Some.slot.0 loaded pairs in
+    let below = slot_within (node_view c.root-root.new.seat) c.root-root.result c.args.page.0 c.in-Some.slot.0 loaded pairs in
     let size = ap (λ (s : Size). s.slots) c.root-root.ensures.table.size_is in
     omega (arith, below, size, c.requires.slots)
 
@@ -34,35 +34,35 @@ lock_slot-locked-requires-clause-found c =
     let root = c.root-root.ensures.shown in
     let walked = c.walk-found.ensures.view in
     let snapshot = ap (λ v. v.snapshot) root.4 in
-    paired_now c.args.page.0 c.in-Some.slot c.walk-found.result root.0 (view c.root-root.new.seat) (view c.walk-found.new.seat) walked.0 snapshot walked.2
+    paired_now c.args.page.0 c.in-Some.slot c.walk-found.result root.0 (node_view c.root-root.new.seat) (node_view c.walk-found.new.seat) walked.0 snapshot walked.2
     (c.walk-found.ensures.slot root.0 snapshot) c.in-Some.is
 
 pub returns-clause-goes_on : goal.returns-clause-goes_on
 returns-clause-goes_on c =
-    let old = seats.view c.args.reader.now in
+    let old = seats.lock_view c.args.reader.now in
     elim c.match-found.branch [
-      | in-Some w ↦ subst (λ (r : ReaderSeat). GoesOn old (seats.view r)) (sym w.reader-is) w.lock_slot-locked.ensures.goes_on
-      | in-None w ↦ stays old (seats.view c.match-found.reader) (ap seats.view w.reader-is)
+      | in-Some w ↦ subst (λ (r : ReaderSeat). GoesOn old (seats.lock_view r)) (sym w.reader-is) w.lock_slot-locked.ensures.goes_on
+      | in-None w ↦ stays old (seats.lock_view c.match-found.reader) (ap seats.lock_view w.reader-is)
     ]
 
 pub returns-clause-locked : goal.returns-clause-locked
 returns-clause-locked c =
     let page = c.args.page.0 in
-    let old = seats.view c.args.reader.now in
-    let new = seats.view c.match-found.reader in
-    let closed = view c.close.new.seat in
+    let old = seats.lock_view c.args.reader.now in
+    let new = seats.lock_view c.match-found.reader in
+    let closed = node_view c.close.new.seat in
     let root = c.root-root.ensures.shown in
     let walked = c.walk-found.ensures.view in
-    let last = last_is root.0 (view c.open.new.seat) (view c.root-root.new.seat) (view c.walk-found.new.seat) closed walked.0 root.4 walked.2 c.close.ensures.view in
+    let last = last_is root.0 (node_view c.open.new.seat) (node_view c.root-root.new.seat) (node_view c.walk-found.new.seat) closed walked.0 root.4 walked.2 c.close.ensures.view in
     let found = c.walk-found.ensures.slot root.0 (ap (λ v. v.snapshot) root.4) in
     elim c.match-found.branch [
       | in-Some w ↦
           let pair = paired page w.in-Some.slot c.walk-found.result root.0 closed last found w.in-Some.is in
-          let at = tried page w.in-Some.slot.0 old (seats.view w.lock_slot-locked.new.reader) closed w.lock_slot-locked.result pair w.lock_slot-locked.ensures.locked in
+          let at = tried page w.in-Some.slot.0 old (seats.lock_view w.lock_slot-locked.new.reader) closed w.lock_slot-locked.result pair w.lock_slot-locked.ensures.locked in
           subst (λ (answer : Result Record Miss). Tells page old new closed answer) (sym w.locked-is)
-          (subst (λ (r : ReaderSeat). Tells page old (seats.view r) closed w.lock_slot-locked.result) (sym w.reader-is) at)
+          (subst (λ (r : ReaderSeat). Tells page old (seats.lock_view r) closed w.lock_slot-locked.result) (sym w.reader-is) at)
       | in-None w ↦
           let none = unpaired page c.root-root.result.tree c.walk-found.result root.0 closed last (ap (λ r. r.tree) root.1) found w.in-None.is in
           subst (λ (answer : Result Record Miss). Tells page old new closed answer) (sym w.locked-is)
-          (untried page c.root-root.result.tree old new closed c.requires.free (ap seats.view w.reader-is) none)
+          (untried page c.root-root.result.tree old new closed c.requires.free (ap seats.lock_view w.reader-is) none)
     ]

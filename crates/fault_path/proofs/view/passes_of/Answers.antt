@@ -2,11 +2,11 @@
 use Rattle.std.proofs.Common.{rules, arith, ℕ, ◌≡◌, ◌<◌, ◌%◌, ◌++◌, ◌∷◌, length, slice_get, Some, subst, sym, ap, ◌∙◌, []}
 use Rattle.std.specs.Vec.Iter.{into_iter_items}
 use Rattle.std.specs.Option.{option_to_list}
-use Rattle.vma_lock.specs.Seats.{table_of}
+use Rattle.vma_lock.specs.Seats.{vma_table_id}
 use Rattle.node_slots.specs.declared.view.NodeView.{NodeView}
 use Rattle.node_slots.specs.Views.{reader_view}
 use Rattle.node_slots.specs.Seats as node_seats
-use Rattle.fault_path.specs.Passes.{PassView, ViewedTable, IsPassOf, IsFresh, AreUnused, caller, looks_of, walks_of, node_size}
+use Rattle.fault_path.specs.Passes.{PassView, ViewedTable, IsTablePass, IsFreshPass, AreUnused, caller, looks_of, walks_of, node_size}
 use Rattle.fault_path.proofs.Places.{push_places, next_at, next_part, last_part, same_lengths, some_left}
 use Rattle.fault_path.proofs.Passes.{fresh_pass, unused_pass}
 use Rattle.fault_path.proofs.view.passes_of.Goals as goal
@@ -50,8 +50,8 @@ loop-reader-preserved c =
     let seat = c.requires.walkers _ _ (next_at kept.walked.0 _ rest _ c.unwrap-walker.result kept.walked.1 taken) in
     let place : length kept.walked.0 ≡ length c.loop-reader.yielded = kept.walked.2 ∙ kept.count in
     let viewed : ViewedTable = record {
-      table = table_of c.args.table.now;
-      nodes = node_seats.table_of c.args.nodes.now;
+      table = vma_table_id c.args.table.now;
+      nodes = node_seats.node_table_id c.args.nodes.now;
       config = c.args.config.now;
       callers = length c.args.operations.now;
     } in
@@ -73,7 +73,7 @@ loop-reader-preserved c =
       count = ap (λ items. length items) c.in_ok-push.ensures.items ∙ same_lengths _ _ _ _ kept.count;
       fresh = subst
           (λ items. (place : ℕ) (pass : PassView) → slice_get items place ≡ Some pass
-          → (IsPassOf viewed c.args.operations.now pass × (caller pass ≡ place)) × IsFresh pass)
+          → (IsTablePass viewed c.args.operations.now pass × (caller pass ≡ place)) × IsFreshPass pass)
           (sym c.in_ok-push.ensures.items)
           (push_places _ c.loop-reader.passes.items c.in_ok-new.field-0 kept.fresh
           (rw kept.count

@@ -1,10 +1,10 @@
 -- For `passes_of`: the passes so far are fresh, each in its place.
 use Rattle.std.proofs.Common.{ℕ, List, ◌≡◌, ◌++◌, length, slice_get, Some}
 use Rattle.std.specs.Vec.Iter.{into_iter_items, into_iter_len}
-use Rattle.vma_lock.specs.Seats.{table_of}
+use Rattle.vma_lock.specs.Seats.{vma_table_id}
 use Rattle.node_slots.specs.declared.seats.NodeSeat.{NodeSeat}
 use Rattle.node_slots.specs.Seats as node_seats
-use Rattle.fault_path.specs.Passes.{PassView, IsPassOf, IsFresh, AreUnused, caller}
+use Rattle.fault_path.specs.Passes.{PassView, IsTablePass, IsFreshPass, AreUnused, caller}
 use Rattle.fault_path.proofs.view.passes_of.Given as goal
 
 abbrev pub invariant-loop-reader : goal.invariant-loop-reader
@@ -15,7 +15,7 @@ invariant-loop-reader l = record {
   walkers_left : into_iter_len l.walkers ≡ length (into_iter_items l.walkers);
   count : length l.passes.items ≡ length l.yielded;
   fresh : (place : ℕ) (pass : PassView) → slice_get l.passes.items place ≡ Some pass
-      → (IsPassOf (record { table = table_of l.table; nodes = node_seats.table_of l.nodes; config = l.config; callers = length l.operations }) l.operations pass
-      × (caller pass ≡ place)) × IsFresh pass;
+      → (IsTablePass (record { table = vma_table_id l.table; nodes = node_seats.node_table_id l.nodes; config = l.config; callers = length l.operations }) l.operations pass
+      × (caller pass ≡ place)) × IsFreshPass pass;
   unused : AreUnused l.passes.items;
 }

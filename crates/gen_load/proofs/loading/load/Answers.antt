@@ -2,7 +2,7 @@
 use Rattle.std.proofs.Common.{◌≡◌, ◌++◌, ℕ, arith, codes, subst, sym}
 use Rattle.std.proofs.lemmas.Grind.{common_steps}
 use Rattle.trace_reader.specs.LineTexts.{line_text}
-use Rattle.gen_load.specs.Loads.{draw_of, line_of}
+use Rattle.gen_load.specs.Loads.{draw_of, drawn_line}
 use Rattle.gen_load.proofs.Written.{IsLoading, loading_none, loading_more, loading_all}
 use Rattle.gen_load.proofs.loading.load.Goals as goal
 
@@ -14,7 +14,7 @@ loop-init c =
 pub loop-preserved : goal.loop-preserved
 loop-preserved c =
     let next = c.below-draw.new.self in
-    let adds : c.push_line.new.text.items ≡ c.loop.text.items ++ line_text (line_of 0 (draw_of next)) =
+    let adds : c.push_line.new.text.items ≡ c.loop.text.items ++ line_text (drawn_line 0 (draw_of next)) =
     grind (arith, common_steps) in
     loading_more _ _ _ _ c.loop.draws _ _ c.loop.invariant c.loop-test.true c.below-draw.ensures.state adds
 

@@ -3,7 +3,7 @@ use Rattle.std.proofs.Common.{arith, ap}
 use Rattle.std.proofs.lemmas.List.{drop_all}
 use Rattle.grace_core.proofs.Clearings.{least_number}
 use Rattle.grace_core.proofs.WriterStates.{least_gone, least_here}
-use Rattle.grace_core.specs.Steps.{least, new_clearing}
+use Rattle.grace_core.specs.Steps.{cleared_up_to, new_clearing}
 use Rattle.grace_core.proofs.clearing.least.Goals as goal
 use Rattle.grace_core.proofs.clearing.least.Goals.{then-not-clearing, else-not-clearing}
 
@@ -29,5 +29,5 @@ loop-clearing-preserved c = elim c.if-not-clearing.branch [
 pub returns : goal.returns
 returns c =
     let none = drop_all c.loop-clearing.clearing-index c.args.clearings.now c.loop-clearing-test.false in
-    let rest = ap (least c.args.number) none in
+    let rest = ap (cleared_up_to c.args.number) none in
     omega (arith, rest, c.loop-clearing.invariant.below, c.loop-clearing.invariant.rest)

@@ -2,8 +2,8 @@
 use Rattle.std.proofs.Common.{◌++◌, ◌∙◌, ℕ, List, [], length, take, Option, ap, refl, subst, sym, arith}
 use Rattle.std.proofs.lemmas.List.{length-take-le}
 use Rattle.live_session.specs.declared.answering.Stop.{Stop}
-use Rattle.live_session.specs.Sessions.{answered, ending_text}
-use Rattle.live_session.specs.Internal.Held.{HeldView, without_turn}
+use Rattle.live_session.specs.Sessions.{line_answer, ending_text}
+use Rattle.live_session.specs.Internal.Held.{HeldLineView, with_one_turn_less}
 use Rattle.live_session.specs.Internal.Talking.{AnswersLine, session_of}
 use Rattle.live_session.proofs.Reached.{reached_count}
 use Rattle.live_session.proofs.Talks.{ends_err, talked_full_cut, talked_full_given, talked_no_memory, talked_reached, talking_on, told_cut, told_done, told_ending, told_some}
@@ -43,7 +43,7 @@ returns-in_err-stop-clause-ends g c = λ s k t.
     (c.in_ok-len.ensures.found s k (session_of c.lines.says c.lines.space) (c.lines.invariant.talked s k t)) in
     ends_err s (g.S.Source.seen c.find_line.new.source) k (g.K.Sink.seen c.find_line.new.sink) c.find_line.new.self c.answer_line.new.piece.items (session_of c.answer_line.new.says c.answer_line.new.space) c.from_residual-in_err-stop.result _
     c.from_residual-in_err-stop.ensures.1
-    (talked_no_memory s (g.S.Source.seen c.find_line.new.source) k (g.K.Sink.seen c.find_line.new.sink) (without_turn c.find_line.new.self) c.find_line.new.piece.items (session_of c.lines.says c.lines.space) found.0 (omega (arith, found.1.within)))
+    (talked_no_memory s (g.S.Source.seen c.find_line.new.source) k (g.K.Sink.seen c.find_line.new.sink) (with_one_turn_less c.find_line.new.self) c.find_line.new.piece.items (session_of c.lines.says c.lines.space) found.0 (omega (arith, found.1.within)))
 
 pub pass-requires : goal.pass-requires
 pass-requires g c =
@@ -59,7 +59,7 @@ returns-in-Some-stop-clause-ends g c = λ s k t.
     line_ends s (g.S.Source.seen c.find_line.new.source) k (g.K.Sink.seen c.find_line.new.sink) c.find_line.new.self c.pass.new.self c.find_line.new.piece.items c.answer_line.new.piece.items
     (take c.in-Some.len c.bytes.result.now) (session_of c.lines.says c.lines.space) (session_of c.answer_line.new.says c.answer_line.new.space) c.in-Some.len c.in-Some-stop.stop found.0 found.1 found.2
     (ap (λ (b : List ℕ). take c.in-Some.len b) c.bytes.ensures) c.pass.ensures
-    (subst (λ (o : Option Stop). AnswersLine (answered (session_of c.lines.says c.lines.space) (take c.in-Some.len c.bytes.result.now)) c.find_line.new.piece.items
+    (subst (λ (o : Option Stop). AnswersLine (line_answer (session_of c.lines.says c.lines.space) (take c.in-Some.len c.bytes.result.now)) c.find_line.new.piece.items
     c.answer_line.new.piece.items (session_of c.answer_line.new.says c.answer_line.new.space) o) c.in-Some-stop.is c.in_ok-stop.ensures.answers)
 
 pub give_full-requires : goal.give_full-requires
@@ -78,10 +78,10 @@ lines-preserved g c = record {
       (line_answered s (g.S.Source.seen c.find_line.new.source) k (g.K.Sink.seen c.find_line.new.sink) c.find_line.new.self c.pass.new.self c.find_line.new.piece.items c.answer_line.new.piece.items
       (take c.in-Some.len c.bytes.result.now) (session_of c.lines.says c.lines.space) (session_of c.answer_line.new.says c.answer_line.new.space) c.in-Some.len found.0 found.1 found.2
       (ap (λ (b : List ℕ). take c.in-Some.len b) c.bytes.ensures) c.pass.ensures
-      (subst (λ (o : Option Stop). AnswersLine (answered (session_of c.lines.says c.lines.space) (take c.in-Some.len c.bytes.result.now)) c.find_line.new.piece.items
+      (subst (λ (o : Option Stop). AnswersLine (line_answer (session_of c.lines.says c.lines.space) (take c.in-Some.len c.bytes.result.now)) c.find_line.new.piece.items
       c.answer_line.new.piece.items (session_of c.answer_line.new.says c.answer_line.new.space) o) c.in_default-stop.is c.in_ok-stop.ensures.answers))
       c.in_ok-give_full.ensures.printing;
-  later = omega (arith, c.lines.invariant.later, c.in_ok-len.ensures.turns.0, ap (λ (h : HeldView). h.turns) c.pass.ensures);
+  later = omega (arith, c.lines.invariant.later, c.in_ok-len.ensures.turns.0, ap (λ (h : HeldLineView). h.turns) c.pass.ensures);
   stays = λ some. c.in_ok-stop.ensures.open (c.lines.invariant.stays some);
 }
 
@@ -95,9 +95,9 @@ returns-in_err-give_full-clause-ends g c = λ s k t.
     (line_answered s (g.S.Source.seen c.find_line.new.source) k (g.K.Sink.seen c.find_line.new.sink) c.find_line.new.self c.pass.new.self c.find_line.new.piece.items c.answer_line.new.piece.items
     (take c.in-Some.len c.bytes.result.now) (session_of c.lines.says c.lines.space) (session_of c.answer_line.new.says c.answer_line.new.space) c.in-Some.len found.0 found.1 found.2
     (ap (λ (b : List ℕ). take c.in-Some.len b) c.bytes.ensures) c.pass.ensures
-    (subst (λ (o : Option Stop). AnswersLine (answered (session_of c.lines.says c.lines.space) (take c.in-Some.len c.bytes.result.now)) c.find_line.new.piece.items
+    (subst (λ (o : Option Stop). AnswersLine (line_answer (session_of c.lines.says c.lines.space) (take c.in-Some.len c.bytes.result.now)) c.find_line.new.piece.items
     c.answer_line.new.piece.items (session_of c.answer_line.new.says c.answer_line.new.space) o) c.in_default-stop.is c.in_ok-stop.ensures.answers))
-    (omega (arith, found.2, ap (λ (h : HeldView). h.turns) c.pass.ensures)) c.in_err-give_full.ensures.printing)
+    (omega (arith, found.2, ap (λ (h : HeldLineView). h.turns) c.pass.ensures)) c.in_err-give_full.ensures.printing)
 
 pub push_ending-requires : goal.push_ending-requires
 push_ending-requires g c =
@@ -127,7 +127,7 @@ pub returns-in_err-give_answers-clause-ends : goal.returns-in_err-give_answers-c
 returns-in_err-give_answers-clause-ends g c = λ s k t.
     let ended = end_found s (g.S.Source.seen c.find_line.new.source) k (g.K.Sink.seen c.find_line.new.sink) c.find_line.new.self c.find_line.new.piece.items (session_of c.lines.says c.lines.space) c.in_ok-len.field-0 c.in_default.is
     (c.in_ok-len.ensures.found s k (session_of c.lines.says c.lines.space) (c.lines.invariant.talked s k t)) in
-    let told = told_ending s (g.S.Source.seen c.find_line.new.source) k (g.K.Sink.seen c.find_line.new.sink) (without_turn c.find_line.new.self) c.find_line.new.piece.items c.push_ending.new.piece.items (session_of c.lines.says c.lines.space) ended.0 ended.3
+    let told = told_ending s (g.S.Source.seen c.find_line.new.source) k (g.K.Sink.seen c.find_line.new.sink) (with_one_turn_less c.find_line.new.self) c.find_line.new.piece.items c.push_ending.new.piece.items (session_of c.lines.says c.lines.space) ended.0 ended.3
     (c.in_ok-push_ending.ensures.text ∙ ap (λ (b : List ℕ). c.find_line.new.piece.items ++ ending_text (session_of c.lines.says c.lines.space) b) c.bytes-2.ensures) in
     ends_err s (g.S.Source.seen c.find_line.new.source) k (g.K.Sink.seen c.give_answers.new.sink) c.find_line.new.self c.give_answers.new.piece.items (session_of c.lines.says c.lines.space) c.from_residual-in_err-give_answers.result _
     c.from_residual-in_err-give_answers.ensures.1
@@ -139,7 +139,7 @@ pub returns-clause-ends : goal.returns-clause-ends
 returns-clause-ends g c = λ s k t.
     let ended = end_found s (g.S.Source.seen c.find_line.new.source) k (g.K.Sink.seen c.find_line.new.sink) c.find_line.new.self c.find_line.new.piece.items (session_of c.lines.says c.lines.space) c.in_ok-len.field-0 c.in_default.is
     (c.in_ok-len.ensures.found s k (session_of c.lines.says c.lines.space) (c.lines.invariant.talked s k t)) in
-    let told = told_ending s (g.S.Source.seen c.find_line.new.source) k (g.K.Sink.seen c.find_line.new.sink) (without_turn c.find_line.new.self) c.find_line.new.piece.items c.push_ending.new.piece.items (session_of c.lines.says c.lines.space) ended.0 ended.3
+    let told = told_ending s (g.S.Source.seen c.find_line.new.source) k (g.K.Sink.seen c.find_line.new.sink) (with_one_turn_less c.find_line.new.self) c.find_line.new.piece.items c.push_ending.new.piece.items (session_of c.lines.says c.lines.space) ended.0 ended.3
     (c.in_ok-push_ending.ensures.text ∙ ap (λ (b : List ℕ). c.find_line.new.piece.items ++ ending_text (session_of c.lines.says c.lines.space) b) c.bytes-2.ensures) in
     told_done s (g.S.Source.seen c.find_line.new.source) k (g.K.Sink.seen c.find_line.new.sink) (g.K.Sink.seen c.give_answers.new.sink) c.push_ending.new.piece.items told ended.2
     c.in_ok-give_answers.ensures.0

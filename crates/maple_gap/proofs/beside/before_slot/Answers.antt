@@ -1,12 +1,12 @@
 -- For `before_slot`: the entry that has the page before, or the one before it.
 use Rattle.std.proofs.Common.{ℕ, List, None, ◌≤◌, ◌+◌, ◌-◌, ◌⊎◌, sym, ap, subst, ◌∙◌, arith}
-use Rattle.maple_node.specs.Nodes.{end_of}
+use Rattle.maple_node.specs.Nodes.{items_end}
 use Rattle.maple_node.specs.Levels.{item_at}
 use Rattle.maple_node.specs.Trees.{Pair}
 use Rattle.maple_node.specs.Splices.{ending_by}
 use Rattle.maple_node.proofs.ItemLists.{ending_by_below}
 use Rattle.node_slots.specs.Built.{words_at}
-use Rattle.maple_gap.specs.Gaps.{last_before, slot_in}
+use Rattle.maple_gap.specs.Gaps.{last_pair_before, slot_in}
 use Rattle.maple_gap.specs.Internal.Searches.{entries_under, with_gap}
 use Rattle.maple_gap.proofs.Under.{under_past}
 use Rattle.maple_gap.proofs.Searching.{entries_of_root}
@@ -23,7 +23,7 @@ returns-then-above-eq0 c =
     let past = under_past (words_at c.args.writer.now) is.branch.limit root.level root.place.start (with_gap is.branch.gap root.place.item) is.branch.under in
     let test = c.if-above-eq0.true in
     let least = c.min-above.ensures in
-    sym (ap (λ (ps : List Pair). slot_in (last_before ps page)) (sym is.pairs) ∙ ap slot_in (before_none page 0 None entries all.ascends (omega arith)))
+    sym (ap (λ (ps : List Pair). slot_in (last_pair_before ps page)) (sym is.pairs) ∙ ap slot_in (before_none page 0 None entries all.ascends (omega arith)))
 
 pub slot_of-requires : goal.slot_of-requires
 slot_of-requires c =
@@ -40,11 +40,11 @@ returns-then-here-ne0 c =
     let test = c.if-above-eq0.false in
     let entries = entries_under (words_at c.args.writer.now) root in
     let all = entries_of_root c.args.writer.now c.args.tree.now root is in
-    let edge : (page ≤ above - 1 + 1) ⊎ (end_of 0 entries ≤ above - 1 + 1) =
+    let edge : (page ≤ above - 1 + 1) ⊎ (items_end 0 entries ≤ above - 1 + 1) =
     subst (λ (e : ℕ). (page ≤ above - 1 + 1) ⊎ (e ≤ above - 1 + 1)) (is.limit ∙ sym all.ending) (edge_of page root.place.item.end above least test) in
     c.slot_of.ensures
     ∙ before_here page (above - 1) 0 None entries c.entry_at-here.result.item all.ascends (omega arith) (omega arith) edge c.entry_at-here.ensures.item c.if-here-ne0.true
-    ∙ ap (λ (ps : List Pair). slot_in (last_before ps page)) is.pairs
+    ∙ ap (λ (ps : List Pair). slot_in (last_pair_before ps page)) is.pairs
 
 pub returns-then-here-eq0 : goal.returns-then-here-eq0
 returns-then-here-eq0 c =
@@ -56,11 +56,11 @@ returns-then-here-eq0 c =
     let test = c.if-above-eq0.false in
     let entries = entries_under (words_at c.args.writer.now) root in
     let all = entries_of_root c.args.writer.now c.args.tree.now root is in
-    let edge : (page ≤ above - 1 + 1) ⊎ (end_of 0 entries ≤ above - 1 + 1) =
+    let edge : (page ≤ above - 1 + 1) ⊎ (items_end 0 entries ≤ above - 1 + 1) =
     subst (λ (e : ℕ). (page ≤ above - 1 + 1) ⊎ (e ≤ above - 1 + 1)) (is.limit ∙ sym all.ending) (edge_of page root.place.item.end above least test) in
-    let begins = c.entry_at-here.ensures.start ∙ ap (λ (p : ℕ). end_of p (ending_by (above - 1) entries)) is.begin in
+    let begins = c.entry_at-here.ensures.start ∙ ap (λ (p : ℕ). items_end p (ending_by (above - 1) entries)) is.begin in
     let first = c.if-here-eq0.true in
-    sym (ap (λ (ps : List Pair). slot_in (last_before ps page)) (sym is.pairs)
+    sym (ap (λ (ps : List Pair). slot_in (last_pair_before ps page)) (sym is.pairs)
     ∙ ap slot_in (before_first page (above - 1) 0 None entries c.entry_at-here.result.item all.ascends (omega arith) (omega arith) edge
     c.entry_at-here.ensures.item c.if-here-ne0.false (omega arith)))
 
@@ -72,7 +72,7 @@ entry_at-before-requires-clause-within c =
     let least = c.min-above.ensures in
     let test = c.if-above-eq0.false in
     let entries = entries_under (words_at c.args.writer.now) root in
-    let begins = c.entry_at-here.ensures.start ∙ ap (λ (p : ℕ). end_of p (ending_by (above - 1) entries)) is.begin in
+    let begins = c.entry_at-here.ensures.start ∙ ap (λ (p : ℕ). items_end p (ending_by (above - 1) entries)) is.begin in
     let low = ending_by_below 0 (above - 1) entries (omega arith) in
     omega arith
 
@@ -91,12 +91,12 @@ returns c =
     let test = c.if-above-eq0.false in
     let entries = entries_under (words_at c.args.writer.now) root in
     let all = entries_of_root c.args.writer.now c.args.tree.now root is in
-    let edge : (page ≤ above - 1 + 1) ⊎ (end_of 0 entries ≤ above - 1 + 1) =
+    let edge : (page ≤ above - 1 + 1) ⊎ (items_end 0 entries ≤ above - 1 + 1) =
     subst (λ (e : ℕ). (page ≤ above - 1 + 1) ⊎ (e ≤ above - 1 + 1)) (is.limit ∙ sym all.ending) (edge_of page root.place.item.end above least test) in
-    let begins = c.entry_at-here.ensures.start ∙ ap (λ (p : ℕ). end_of p (ending_by (above - 1) entries)) is.begin in
+    let begins = c.entry_at-here.ensures.start ∙ ap (λ (p : ℕ). items_end p (ending_by (above - 1) entries)) is.begin in
     let later = c.if-here-eq0.false in
     c.slot_of-2.ensures
     ∙ before_gap page (above - 1) 1 0 None entries c.entry_at-here.result.item c.entry_at-before.result.item all.ascends is.apart (omega arith) (omega arith)
     edge c.entry_at-here.ensures.item c.if-here-ne0.false (omega arith)
     (ap (λ (n : ℕ). item_at (n - 1) entries) (sym begins) ∙ c.entry_at-before.ensures.item)
-    ∙ ap (λ (ps : List Pair). slot_in (last_before ps page)) is.pairs
+    ∙ ap (λ (ps : List Pair). slot_in (last_pair_before ps page)) is.pairs

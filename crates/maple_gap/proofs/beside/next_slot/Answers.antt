@@ -2,7 +2,7 @@
 use Rattle.std.proofs.Common.{List, sym, ap, ◌∙◌, arith}
 use Rattle.maple_node.specs.Trees.{Pair}
 use Rattle.node_slots.specs.Built.{words_at}
-use Rattle.maple_gap.specs.Gaps.{first_from, slot_in}
+use Rattle.maple_gap.specs.Gaps.{first_pair_from, slot_in}
 use Rattle.maple_gap.specs.Internal.Searches.{entries_under}
 use Rattle.maple_gap.proofs.Searching.{entries_of_root}
 use Rattle.maple_gap.proofs.Finding.{whole_item, item_above}
@@ -19,7 +19,7 @@ returns-then-page-limit c =
     let ending = all.ending in
     let limit = is.limit in
     let test = c.if-page-limit.true in
-    sym (ap (λ (ps : List Pair). slot_in (first_from ps page)) (sym is.pairs) ∙ ap slot_in (next_none page 0 entries all.ascends (omega arith)))
+    sym (ap (λ (ps : List Pair). slot_in (first_pair_from ps page)) (sym is.pairs) ∙ ap slot_in (next_none page 0 entries all.ascends (omega arith)))
 
 pub slot_of-requires : goal.slot_of-requires
 slot_of-requires c =
@@ -38,7 +38,7 @@ returns-then-here-ne0 c =
     let page = c.args.page.0 in
     let entries = entries_under (words_at c.args.writer.now) root in
     c.slot_of.ensures ∙ next_here page 0 entries c.entry_at-here.result.item found c.if-here-ne0.true
-    ∙ ap (λ (ps : List Pair). slot_in (first_from ps page)) c.root_of-root.ensures.root.pairs
+    ∙ ap (λ (ps : List Pair). slot_in (first_pair_from ps page)) c.root_of-root.ensures.root.pairs
 
 pub returns-then-here-limit : goal.returns-then-here-limit
 returns-then-here-limit c =
@@ -53,7 +53,7 @@ returns-then-here-limit c =
     let ending = all.ending in
     let limit = is.limit in
     let test = c.if-here-limit.true in
-    sym (ap (λ (ps : List Pair). slot_in (first_from ps page)) (sym is.pairs)
+    sym (ap (λ (ps : List Pair). slot_in (first_pair_from ps page)) (sym is.pairs)
     ∙ ap slot_in (next_last page 0 entries c.entry_at-here.result.item all.ascends found c.if-here-ne0.false (omega arith)))
 
 pub slot_of-requires-2 : goal.slot_of-requires-2
@@ -74,7 +74,7 @@ returns c =
     c.slot_of-2.ensures
     ∙ next_gap page 1 0 entries c.entry_at-here.result.item c.entry_near-next.result.item all.ascends is.apart found
     c.if-here-ne0.false c.entry_near-next.ensures.item
-    ∙ ap (λ (ps : List Pair). slot_in (first_from ps page)) is.pairs
+    ∙ ap (λ (ps : List Pair). slot_in (first_pair_from ps page)) is.pairs
 
 pub entry_near-next-requires-clause-ending_after : goal.entry_near-next-requires-clause-ending_after
 entry_near-next-requires-clause-ending_after c =

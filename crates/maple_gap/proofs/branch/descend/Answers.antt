@@ -1,7 +1,7 @@
 -- For `descend`: the node that is read, a step down, and what is found.
 use Rattle.std.proofs.Common.{suc, ◌≡◌, ◌-◌, Some, refl, sym, ap, ◌∙◌, arith}
 use Rattle.std.specs.Option.{option_or}
-use Rattle.maple_node.specs.Nodes.{items_of}
+use Rattle.maple_node.specs.Nodes.{node_items}
 use Rattle.maple_node.specs.Levels.{is_leaf}
 use Rattle.node_slots.specs.Built.{words_at}
 use Rattle.maple_gap.specs.Internal.Searches.{best_of}
@@ -34,8 +34,8 @@ returns-in_default-clause-best g c =
     let test = c.loop-branch-test.true in
     let e : branch.level ≡ suc level = omega arith in
     let at = words_at c.args.writer.now in
-    let looked = seen c.args.side c.args.window at going.limit branch.level level branch.place.start branch.place.item (is_leaf level) (items_of (is_leaf level) c.words-words.result.now)
-    c.choose-choice.result c.requires.some e going.under refl (ap (items_of (is_leaf level)) c.words-words.ensures.words) c.choose-choice.ensures in
+    let looked = seen c.args.side c.args.window at going.limit branch.level level branch.place.start branch.place.item (is_leaf level) (node_items (is_leaf level) c.words-words.result.now)
+    c.choose-choice.result c.requires.some e going.under refl (ap (node_items (is_leaf level)) c.words-words.ensures.words) c.choose-choice.ensures in
     going.sought ∙ ap (λ o. option_or o (best_of c.args.side c.args.window at c.loop-branch.spare))
     (stuck c.args.side c.args.window at c.args.from branch c.loop-branch.spare level c.choose-choice.result.first c.choose-choice.result.second going e looked c.in_default.is)
 
@@ -47,8 +47,8 @@ returns-in_default-clause-far g c = λ far.
     let test = c.loop-branch-test.true in
     let e : branch.level ≡ suc level = omega arith in
     let at = words_at c.args.writer.now in
-    let looked = seen c.args.side c.args.window at going.limit branch.level level branch.place.start branch.place.item (is_leaf level) (items_of (is_leaf level) c.words-words.result.now)
-    c.choose-choice.result c.requires.some e going.under refl (ap (items_of (is_leaf level)) c.words-words.ensures.words) c.choose-choice.ensures in
+    let looked = seen c.args.side c.args.window at going.limit branch.level level branch.place.start branch.place.item (is_leaf level) (node_items (is_leaf level) c.words-words.result.now)
+    c.choose-choice.result c.requires.some e going.under refl (ap (node_items (is_leaf level)) c.words-words.ensures.words) c.choose-choice.ensures in
     (going.far far).1
     ∙ stuck c.args.side c.args.window at c.args.from branch c.loop-branch.spare level c.choose-choice.result.first c.choose-choice.result.second going e looked c.in_default.is
 
@@ -65,8 +65,8 @@ loop-branch-preserved g c =
     let test = c.loop-branch-test.true in
     let e : branch.level ≡ suc level = omega arith in
     let at = words_at c.args.writer.now in
-    let looked = seen c.args.side c.args.window at going.limit branch.level level branch.place.start branch.place.item (is_leaf level) (items_of (is_leaf level) c.words-words.result.now)
-    c.choose-choice.result c.requires.some e going.under refl (ap (items_of (is_leaf level)) c.words-words.ensures.words) c.choose-choice.ensures in
+    let looked = seen c.args.side c.args.window at going.limit branch.level level branch.place.start branch.place.item (is_leaf level) (node_items (is_leaf level) c.words-words.result.now)
+    c.choose-choice.result c.requires.some e going.under refl (ap (node_items (is_leaf level)) c.words-words.ensures.words) c.choose-choice.ensures in
     rw c.spare_from-spare.ensures (record {
       going = went c.args.side c.args.window at c.args.from branch c.loop-branch.spare level c.choose-choice.result.first c.choose-choice.result.second
           c.in-Some.place c.requires.some going e looked c.in-Some.is;

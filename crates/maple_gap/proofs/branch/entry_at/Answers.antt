@@ -1,6 +1,6 @@
 -- For `entry_at`: the node that is read, and the item in it that has the page.
 use Rattle.std.proofs.Common.{◌-◌, refl, ap, arith}
-use Rattle.maple_node.specs.Nodes.{items_of}
+use Rattle.maple_node.specs.Nodes.{node_items}
 use Rattle.maple_node.specs.Levels.{is_leaf}
 use Rattle.node_slots.specs.Built.{words_at}
 use Rattle.maple_gap.specs.Internal.Searches.{with_gap}
@@ -26,24 +26,24 @@ item_in-requires-clause-ascends g c =
     let branch = c.loop-branch.branch in
     let level = branch.level - 1 in
     let test = c.loop-branch-test.true in
-    (inside (words_at c.args.writer.now) c.args.page c.args.root branch level (is_leaf level) (items_of (is_leaf level) c.words-words.result.now) c.loop-branch.invariant (omega arith) refl
-    (ap (items_of (is_leaf level)) c.words-words.ensures.words)).ascends
+    (inside (words_at c.args.writer.now) c.args.page c.args.root branch level (is_leaf level) (node_items (is_leaf level) c.words-words.result.now) c.loop-branch.invariant (omega arith) refl
+    (ap (node_items (is_leaf level)) c.words-words.ensures.words)).ascends
 
 pub item_in-requires-clause-within : goal.item_in-requires-clause-within
 item_in-requires-clause-within g c =
     let branch = c.loop-branch.branch in
     let level = branch.level - 1 in
     let test = c.loop-branch-test.true in
-    (inside (words_at c.args.writer.now) c.args.page c.args.root branch level (is_leaf level) (items_of (is_leaf level) c.words-words.result.now) c.loop-branch.invariant (omega arith) refl
-    (ap (items_of (is_leaf level)) c.words-words.ensures.words)).within
+    (inside (words_at c.args.writer.now) c.args.page c.args.root branch level (is_leaf level) (node_items (is_leaf level) c.words-words.result.now) c.loop-branch.invariant (omega arith) refl
+    (ap (node_items (is_leaf level)) c.words-words.ensures.words)).within
 
 pub loop-branch-preserved : goal.loop-branch-preserved
 loop-branch-preserved g c =
     let branch = c.loop-branch.branch in
     let level = branch.level - 1 in
     let test = c.loop-branch-test.true in
-    reach_down (words_at c.args.writer.now) c.args.page c.args.root branch level (is_leaf level) (items_of (is_leaf level) c.words-words.result.now) c.item_in.result c.loop-branch.invariant
-    (omega arith) refl (ap (items_of (is_leaf level)) c.words-words.ensures.words) c.item_in.ensures.item c.item_in.ensures.start
+    reach_down (words_at c.args.writer.now) c.args.page c.args.root branch level (is_leaf level) (node_items (is_leaf level) c.words-words.result.now) c.item_in.result c.loop-branch.invariant
+    (omega arith) refl (ap (node_items (is_leaf level)) c.words-words.ensures.words) c.item_in.ensures.item c.item_in.ensures.start
 
 pub returns-clause-item : goal.returns-clause-item
 returns-clause-item g c =

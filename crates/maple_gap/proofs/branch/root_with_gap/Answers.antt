@@ -1,8 +1,8 @@
 -- For `root_with_gap`: the root is a node of the table, whose items ascend; and its gap is theirs.
 use Rattle.std.proofs.Common.{◌-◌, ◌∙◌, nat_eq, List, ap, sym, subst, arith}
 use Rattle.maple_node.specs.declared.item.NodeItem.{NodeItem}
-use Rattle.maple_node.specs.Nodes.{Ascends, items_of}
-use Rattle.maple_node.specs.Levels.{is_leaf, read}
+use Rattle.maple_node.specs.Nodes.{Ascends, node_items}
+use Rattle.maple_node.specs.Levels.{is_leaf, items_at}
 use Rattle.node_slots.specs.Built.{words_at}
 use Rattle.maple_gap.specs.Internal.Searches.{with_gap}
 use Rattle.maple_gap.proofs.Rows.{node_there}
@@ -27,7 +27,7 @@ gap_in-gap-requires g c =
     let root = c.root_of-root.result in
     let test = c.if-root-eq0.false in
     let leaf = nat_eq root.level 1 in
-    let are = ap (items_of leaf) c.words-words.ensures.words ∙ ap (λ b. read at b root.place.item.word) (one_less root.level (omega arith)) in
+    let are = ap (node_items leaf) c.words-words.ensures.words ∙ ap (λ b. items_at at b root.place.item.word) (one_less root.level (omega arith)) in
     subst (λ (xs : List NodeItem). Ascends root.place.start xs) (sym are) (any_node at root c.root_of-root.ensures.root.branch (omega arith)).ascends
 
 pub returns-clause-root : goal.returns-clause-root
@@ -35,13 +35,13 @@ returns-clause-root g c =
     let root = c.root_of-root.result in
     let test = c.if-root-eq0.false in
     let leaf = nat_eq root.level 1 in
-    (gapped c.args.writer.now c.args.tree.now root leaf (items_of leaf c.words-words.result.now) c.gap_in-gap.result c.root_of-root.ensures.root (omega arith)
-    (one_less root.level (omega arith)) (ap (items_of leaf) c.words-words.ensures.words) c.gap_in-gap.ensures).root
+    (gapped c.args.writer.now c.args.tree.now root leaf (node_items leaf c.words-words.result.now) c.gap_in-gap.result c.root_of-root.ensures.root (omega arith)
+    (one_less root.level (omega arith)) (ap (node_items leaf) c.words-words.ensures.words) c.gap_in-gap.ensures).root
 
 pub returns-clause-branch : goal.returns-clause-branch
 returns-clause-branch g c =
     let root = c.root_of-root.result in
     let test = c.if-root-eq0.false in
     let leaf = nat_eq root.level 1 in
-    (gapped c.args.writer.now c.args.tree.now root leaf (items_of leaf c.words-words.result.now) c.gap_in-gap.result c.root_of-root.ensures.root (omega arith)
-    (one_less root.level (omega arith)) (ap (items_of leaf) c.words-words.ensures.words) c.gap_in-gap.ensures).right
+    (gapped c.args.writer.now c.args.tree.now root leaf (node_items leaf c.words-words.result.now) c.gap_in-gap.result c.root_of-root.ensures.root (omega arith)
+    (one_less root.level (omega arith)) (ap (node_items leaf) c.words-words.ensures.words) c.gap_in-gap.ensures).right

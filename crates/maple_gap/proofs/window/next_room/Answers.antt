@@ -1,11 +1,11 @@
 -- For `next_room`: an item that may not have room is passed over, and none is left.
 use Rattle.std.proofs.Common.{ℕ, ◌≡◌, ◌+◌, drop, false, sym, ap, ◌∙◌, arith}
 use Rattle.maple_node.specs.declared.item.NodeItem.{NodeItem}
-use Rattle.maple_node.specs.Nodes.{items_of}
+use Rattle.maple_node.specs.Nodes.{node_items}
 use Rattle.maple_node.specs.Codec.{width_of, listed_at}
 use Rattle.maple_node.proofs.Parts.{listed_none, listed_past}
 use Rattle.maple_node.proofs.Spliced.{some_words}
-use Rattle.maple_gap.specs.Internal.Searches.{may_have, chosen_from}
+use Rattle.maple_gap.specs.Internal.Searches.{may_have_room, chosen_from}
 use Rattle.maple_gap.proofs.Choices.{chosen_step, chosen_none}
 use Rattle.maple_gap.proofs.window.next_room.Goals as goal
 
@@ -18,8 +18,8 @@ loop-spot-preserved c =
     let place = c.loop-spot.spot.place in
     let page = c.loop-spot.spot.page in
     let item = c.listed_at-item.ensures in
-    let out : may_have window leaf page (listed_at leaf words place) ≡ false =
-    sym (ap (may_have window leaf page) item) ∙ sym c.may_have.ensures ∙ c.if-may_have.false in
+    let out : may_have_room window leaf page (listed_at leaf words place) ≡ false =
+    sym (ap (may_have_room window leaf page) item) ∙ sym c.may_have.ensures ∙ c.if-may_have.false in
     record {
       within = c.loop-spot-test.true;
       width = is.width;
@@ -27,8 +27,8 @@ loop-spot-preserved c =
       same = λ side choice.
           is.same side choice
           ∙ chosen_step side window leaf choice page place words false (omega (arith, c.loop-spot-test.true, is.width, c.told-words)) c.if-words-spot-ne0.true out
-          ∙ ap (λ (x : NodeItem). chosen_from side window leaf choice x.end (items_of leaf (drop (place + width_of leaf) words))) (sym item)
-          ∙ ap (λ (n : ℕ). chosen_from side window leaf choice c.listed_at-item.result.end (items_of leaf (drop (place + n) words))) (sym is.width);
+          ∙ ap (λ (x : NodeItem). chosen_from side window leaf choice x.end (node_items leaf (drop (place + width_of leaf) words))) (sym item)
+          ∙ ap (λ (n : ℕ). chosen_from side window leaf choice c.listed_at-item.result.end (node_items leaf (drop (place + n) words))) (sym is.width);
     }
 
 pub returns-else-words-spot-ne0-clause-none : goal.returns-else-words-spot-ne0-clause-none

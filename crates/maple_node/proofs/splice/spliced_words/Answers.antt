@@ -2,10 +2,10 @@
 use Rattle.std.proofs.Common.{ℕ, ◌≡◌, refl, inl, inr, List, length, take, drop, ◌++◌, ◌-◌, ◌+◌, ◌*◌, ap, ◌∙◌, arith, length-append}
 use Rattle.std.proofs.lemmas.List.{length-take-le, length-drop}
 use Rattle.std.specs.List.{flat_map}
-use Rattle.maple_node.specs.Nodes.{item_words, items_of, most}
+use Rattle.maple_node.specs.Nodes.{item_words, node_items, most}
 use Rattle.maple_node.specs.Splices.{ending_by, spliced}
 use Rattle.maple_node.specs.Codec.{width_of}
-use Rattle.maple_node.specs.Padding.{padded}
+use Rattle.maple_node.specs.Padding.{padded_node}
 use Rattle.maple_node.proofs.Padded.{length-words}
 use Rattle.maple_node.proofs.Spliced.{count_is, spliced_is, fits_of, misfits_of, most_words}
 use Rattle.maple_node.proofs.splice.spliced_words.Goals as goal
@@ -36,12 +36,12 @@ returns-clause-words c done =
     let leaf = c.args.leaf in
     let words = c.args.words.now in
     let new = c.args.new.now in
-    let items = items_of leaf words in
+    let items = node_items leaf words in
     let F = flat_map (item_words leaf) in
     let parts = c.parts_of-before.result in
     let told = c.parts_of-before.ensures in
     let mid = take (parts.used - parts.past) (drop parts.past words) in
-    ap padded (c.push_words-2.ensures
+    ap padded_node (c.push_words-2.ensures
     ∙ ap (λ (ws : List ℕ). ws ++ mid) (c.push_items.ensures
     ∙ ap (λ (ws : List ℕ). ws ++ F new) (c.push_words.ensures
     ∙ ap (λ (ws : List ℕ). ws ++ take parts.before words) c.requires.none ∙ told.front))
@@ -58,7 +58,7 @@ returns-clause-most c done =
     let wide = ap (λ (n : ℕ). n * length new) c.width_of-width.ensures in
     let count = count_is leaf c.args.lo c.args.hi parts.before parts.past parts.used words new (omega (arith, told.before, told.within, c.told-words))
     (omega (arith, told.within, c.told-words)) told.past told.front told.back in
-    (fits_of leaf c.args.fewest (length (spliced c.args.lo c.args.hi new (items_of leaf words)))
+    (fits_of leaf c.args.fewest (length (spliced c.args.lo c.args.hi new (node_items leaf words)))
     (parts.before + c.width_of-width.result * length new + (parts.used - parts.past)) c.width_of-width.result c.most.result
     (omega (arith, wide, count)) c.width_of-width.ensures c.most.ensures c.if-count-width.false c.if-width-most.false).most
 
@@ -72,7 +72,7 @@ returns-clause-least c done =
     let wide = ap (λ (n : ℕ). n * length new) c.width_of-width.ensures in
     let count = count_is leaf c.args.lo c.args.hi parts.before parts.past parts.used words new (omega (arith, told.before, told.within, c.told-words))
     (omega (arith, told.within, c.told-words)) told.past told.front told.back in
-    (fits_of leaf c.args.fewest (length (spliced c.args.lo c.args.hi new (items_of leaf words)))
+    (fits_of leaf c.args.fewest (length (spliced c.args.lo c.args.hi new (node_items leaf words)))
     (parts.before + c.width_of-width.result * length new + (parts.used - parts.past)) c.width_of-width.result c.most.result
     (omega (arith, wide, count)) c.width_of-width.ensures c.most.ensures c.if-count-width.false c.if-width-most.false).least
 
@@ -87,7 +87,7 @@ returns-then-count-width-clause-none c not_done =
     let count = count_is leaf c.args.lo c.args.hi parts.before parts.past parts.used words new (omega (arith, told.before, told.within, c.told-words))
     (omega (arith, told.within, c.told-words)) told.past told.front told.back in
     let all : ℕ = parts.before + c.width_of-width.result * length new + (parts.used - parts.past) in
-    let items : ℕ = length (spliced c.args.lo c.args.hi new (items_of leaf words)) in
+    let items : ℕ = length (spliced c.args.lo c.args.hi new (node_items leaf words)) in
     let is : all ≡ width_of leaf * items = omega (arith, wide, count) in
     elim c.then-count-width.branch [
       | then-count-width-via-then-count-width w ↦

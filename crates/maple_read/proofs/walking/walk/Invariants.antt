@@ -1,10 +1,10 @@
 -- For `walk`: the row is that of the node that has the page, so many levels down.
-use Rattle.node_slots.specs.Seats.{IsOf, view}
+use Rattle.node_slots.specs.Seats.{IsOfNodeTable, node_view}
 use Rattle.maple_read.proofs.Loaded.{Walks}
 use Rattle.maple_read.proofs.walking.walk.Given as goal
 
 abbrev pub invariant-loop-depth : goal.invariant-loop-depth
 invariant-loop-depth l = record {
-  table : IsOf l.seat l.fn.nodes;
-  walks : Walks (view l.fn.seat) (view l.seat) l.fn.root l.fn.page.0 l._depth l.row.0;
+  table : IsOfNodeTable l.seat l.fn.nodes;
+  walks : Walks (node_view l.fn.seat) (node_view l.seat) l.fn.root l.fn.page.0 l._depth l.row.0;
 }

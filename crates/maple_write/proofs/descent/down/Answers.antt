@@ -1,6 +1,6 @@
 -- For `down`: the step into the node that has the page.
 use Rattle.std.proofs.Common.{◌-◌, ap, arith}
-use Rattle.maple_node.specs.Nodes.{items_of}
+use Rattle.maple_node.specs.Nodes.{node_items}
 use Rattle.maple_node.specs.Levels.{is_leaf}
 use Rattle.node_slots.specs.Seats.{writer_state}
 use Rattle.maple_write.proofs.Writers.{rows_counted}
@@ -24,8 +24,8 @@ item_in-requires-clause-ascends c =
     let begin = c.args.begin in
     let order = c.requires.order in
     (inside_at (writer_state c.args.writer.now).words tree.top.end tree.height c.args.low begin.level (begin.level - 1) c.args.page begin.place.start tree.top
-    begin.place.item (items_of (is_leaf (begin.level - 1)) c.words-words.result.now) c.requires.tower (omega arith) (omega arith) c.requires.high
-    c.requires.begins.item c.requires.begins.start (ap (items_of (is_leaf (begin.level - 1))) c.words-words.ensures)).ascends
+    begin.place.item (node_items (is_leaf (begin.level - 1)) c.words-words.result.now) c.requires.tower (omega arith) (omega arith) c.requires.high
+    c.requires.begins.item c.requires.begins.start (ap (node_items (is_leaf (begin.level - 1))) c.words-words.ensures)).ascends
 
 pub item_in-requires-clause-within : goal.item_in-requires-clause-within
 item_in-requires-clause-within c =
@@ -33,8 +33,8 @@ item_in-requires-clause-within c =
     let begin = c.args.begin in
     let order = c.requires.order in
     (inside_at (writer_state c.args.writer.now).words tree.top.end tree.height c.args.low begin.level (begin.level - 1) c.args.page begin.place.start tree.top
-    begin.place.item (items_of (is_leaf (begin.level - 1)) c.words-words.result.now) c.requires.tower (omega arith) (omega arith) c.requires.high
-    c.requires.begins.item c.requires.begins.start (ap (items_of (is_leaf (begin.level - 1))) c.words-words.ensures)).within
+    begin.place.item (node_items (is_leaf (begin.level - 1)) c.words-words.result.now) c.requires.tower (omega arith) (omega arith) c.requires.high
+    c.requires.begins.item c.requires.begins.start (ap (node_items (is_leaf (begin.level - 1))) c.words-words.ensures)).within
 
 pub returns-clause-begins : goal.returns-clause-begins
 returns-clause-begins c =
@@ -42,8 +42,8 @@ returns-clause-begins c =
     let begin = c.args.begin in
     let order = c.requires.order in
     let step = inside_at (writer_state c.args.writer.now).words tree.top.end tree.height c.args.low begin.level (begin.level - 1) c.args.page begin.place.start tree.top
-    begin.place.item (items_of (is_leaf (begin.level - 1)) c.words-words.result.now) c.requires.tower (omega arith) (omega arith) c.requires.high
-    c.requires.begins.item c.requires.begins.start (ap (items_of (is_leaf (begin.level - 1))) c.words-words.ensures) in
+    begin.place.item (node_items (is_leaf (begin.level - 1)) c.words-words.result.now) c.requires.tower (omega arith) (omega arith) c.requires.high
+    c.requires.begins.item c.requires.begins.start (ap (node_items (is_leaf (begin.level - 1))) c.words-words.ensures) in
     record {
       item = step.found c.item_in.result.item c.item_in.ensures.item;
       start = step.begins c.item_in.result.start c.item_in.ensures.start;

@@ -1,7 +1,7 @@
 -- For `leave_block`: the next node was not left before.
 use Rattle.std.proofs.Common.{◌≡◌, ◌∙◌, List, [], Some, ap, sym, arith}
 use Rattle.maple_node.specs.declared.item.NodeItem.{NodeItem}
-use Rattle.maple_node.specs.Levels.{times, item_at}
+use Rattle.maple_node.specs.Levels.{times_among, item_at}
 use Rattle.node_slots.specs.declared.view.NodeView.{NodeView}
 use Rattle.node_slots.specs.Seats.{row_count}
 use Rattle.maple_write.specs.Internal.Tables.{table_at, rows_in, gone}
@@ -80,6 +80,6 @@ returns c =
       waits = is.waits;
       gone_are = λ row.
           let a = is.gone_are row in
-          let b = ap (λ (xs : List NodeItem). times row (rows_in xs)) (block_done c.loop-page.page c.args.span.hi items c.loop-page-test.false) in
+          let b = ap (λ (xs : List NodeItem). times_among row (rows_in xs)) (block_done c.loop-page.page c.args.span.hi items c.loop-page-test.false) in
           omega arith;
     }

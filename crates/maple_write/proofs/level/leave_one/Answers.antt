@@ -1,6 +1,6 @@
 -- For `leave_one`: the node was not left before.
 use Rattle.std.proofs.Common.{ℕ, ◌≡◌, ◌+◌, true, [], ◌∷◌, ap, subst, sym, arith}
-use Rattle.maple_node.specs.Levels.{times}
+use Rattle.maple_node.specs.Levels.{times_among}
 use Rattle.node_slots.specs.Seats.{row_count, is_kept}
 use Rattle.maple_write.specs.Internal.Tables.{table_at, gone}
 use Rattle.maple_write.specs.Internal.Stores.{level_in, old_nodes}
@@ -35,7 +35,7 @@ returns c =
       waits = λ row. leave_waits writer c.leave.new.self c.args.row.0 row c.leave.ensures.view c.leave.ensures.left;
       gone_are = λ row.
           let here = one.one row in
-          let same = ap (λ (n : ℕ). times row (n ∷ [])) c.requires.row in
+          let same = ap (λ (n : ℕ). times_among row (n ∷ [])) c.requires.row in
           let more = left_more writer c.leave.new.self c.args.row.0 row c.leave.ensures.free c.leave.ensures.left in
           omega arith;
     }

@@ -1,7 +1,7 @@
 -- For `rebalanced`: the next node, whole.
 use Rattle.std.proofs.Common.{◌∙◌, ◌++◌, ◌≤◌, ℕ, List, length, ap, sym, subst, arith}
 use Rattle.maple_node.specs.declared.item.NodeItem.{NodeItem}
-use Rattle.maple_node.specs.Nodes.{least, items_of}
+use Rattle.maple_node.specs.Nodes.{least_items, node_items}
 use Rattle.maple_node.specs.Levels.{is_leaf}
 use Rattle.maple_write.specs.Internal.Tables.{table_at}
 use Rattle.maple_write.specs.Internal.Stores.{level_in, Cut}
@@ -30,7 +30,7 @@ returns-then-edges-state-clause-cut c =
     let short = c.if-len-least.true in
     let count = c.len.ensures.value in
     let bound = c.least.ensures in
-    let joined = c.push_part.ensures.items ∙ ap (λ (words : List ℕ). begun ++ items_of (is_leaf level.height) words) c.words-next_words.ensures in
+    let joined = c.push_part.ensures.items ∙ ap (λ (words : List ℕ). begun ++ node_items (is_leaf level.height) words) c.words-next_words.ensures in
     subst (λ (xs : List NodeItem). Cut table level cut.begin next.end xs) (sym joined)
     (cut_more table level cut.begin cut.end begun next c.requires.writing.partly c.requires.below c.cut-edges.ensures
     c.find-next.ensures.item (omega arith))
@@ -41,7 +41,7 @@ returns-then-edges-state-clause-least c inner =
     let level = level_in c.args.state.now in
     let cut = c.cut-edges.result in
     let begun = c.cut-edges.new.items.items in
-    let joined = c.push_part.ensures.items ∙ ap (λ (words : List ℕ). begun ++ items_of (is_leaf level.height) words) c.words-next_words.ensures in
-    subst (λ (xs : List NodeItem). least (is_leaf level.height) ≤ length xs) (sym joined)
+    let joined = c.push_part.ensures.items ∙ ap (λ (words : List ℕ). begun ++ node_items (is_leaf level.height) words) c.words-next_words.ensures in
+    subst (λ (xs : List NodeItem). least_items (is_leaf level.height) ≤ length xs) (sym joined)
     (cut_enough table level cut.begin cut.end begun c.find-next.result.item c.requires.writing.partly c.requires.below c.cut-edges.ensures
     c.find-next.ensures.item inner)

@@ -1,8 +1,8 @@
 -- For `rebuild_by_list`: the old nodes of the level are left, and it is built.
 use Rattle.std.proofs.Common.{◌∙◌, ◌≤◌, ◌<◌, List, length, refl, ap, sym, subst, arith}
 use Rattle.maple_node.specs.declared.item.NodeItem.{NodeItem}
-use Rattle.maple_node.specs.Nodes.{least, end_of}
-use Rattle.maple_node.specs.Levels.{is_leaf, times}
+use Rattle.maple_node.specs.Nodes.{least_items, items_end}
+use Rattle.maple_node.specs.Levels.{is_leaf, times_among}
 use Rattle.node_slots.specs.declared.view.NodeView.{NodeView}
 use Rattle.node_slots.specs.Built.{words_at}
 use Rattle.maple_write.specs.Internal.Tables.{table_at, rows_between}
@@ -33,10 +33,10 @@ rebuilt_here c =
     let cut = c.rebalanced-edges.ensures.cut in
     let leaves = c.leave_block.ensures in
     let packs = c.pack-items.ensures in
-    let full : end_of edges.begin c.as_slice.result.now < level.tree.top.end → least (is_leaf level.height) ≤ length c.as_slice.result.now = λ less.
-    let ends = ap (end_of edges.begin) same in
+    let full : items_end edges.begin c.as_slice.result.now < level.tree.top.end → least_items (is_leaf level.height) ≤ length c.as_slice.result.now = λ less.
+    let ends = ap (items_end edges.begin) same in
     let until = cut.ending in
-    subst (λ (xs : List NodeItem). least (is_leaf level.height) ≤ length xs) (sym same) (c.rebalanced-edges.ensures.least (omega arith)) in
+    subst (λ (xs : List NodeItem). least_items (is_leaf level.height) ≤ length xs) (sym same) (c.rebalanced-edges.ensures.least (omega arith)) in
     rebuilt (table_at c.args.writer.now) left (table_at c.pack-items.new.writer) level edges.begin edges.end c.rebalanced-edges.new.items.items
     c.pack-items.result.items c.requires.writing.partly c.requires.below cut (packs.nodes level.tree.top.end full)
     (packs.below ∙ same) packs.some packs.few (ap (λ (v : NodeView). v.known.writer_state.words) leaves.view) leaves.free leaves.gone_are packs.kept
@@ -57,7 +57,7 @@ returns c =
         partly = is.partly;
         descent = descent_above old (words_at after) c.args.state.now c.rebalanced-edges.result.end c.requires.writing.partly c.requires.below
             (omega arith)
-            (kept_after old (table_at left) (table_at after) (λ row. times row (rows_between level.lo c.rebalanced-edges.result.end (old_nodes old level)))
+            (kept_after old (table_at left) (table_at after) (λ row. times_among row (rows_between level.lo c.rebalanced-edges.result.end (old_nodes old level)))
             (ap (λ (v : NodeView). v.known.writer_state.words) leaves.view) leaves.gone_are c.pack-items.ensures.kept)
             c.requires.writing.descent;
         fits = c.requires.writing.fits;

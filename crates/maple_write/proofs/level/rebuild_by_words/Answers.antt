@@ -1,7 +1,7 @@
 -- For `rebuild_by_words`: the old node of the level is left, and the new one is built.
 use Rattle.std.proofs.Common.{refl, ap, arith}
-use Rattle.maple_node.specs.Nodes.{items_of}
-use Rattle.maple_node.specs.Levels.{is_leaf, times}
+use Rattle.maple_node.specs.Nodes.{node_items}
+use Rattle.maple_node.specs.Levels.{is_leaf, times_among}
 use Rattle.node_slots.specs.declared.view.NodeView.{NodeView}
 use Rattle.node_slots.specs.Built.{words_at}
 use Rattle.maple_write.specs.Internal.Tables.{table_at, rows_between}
@@ -20,7 +20,7 @@ leave_one-requires-clause-tower c = (upper_of (table_at c.args.writer.now) (leve
 pub leave_one-requires-clause-apart : goal.leave_one-requires-clause-apart
 leave_one-requires-clause-apart c =
     let level = level_in c.args.state.now in
-    in_use c.args.writer.now level c.args.left.start c.args.left.item.end (items_of (is_leaf level.height) c.args.words.now)
+    in_use c.args.writer.now level c.args.left.start c.args.left.item.end (node_items (is_leaf level.height) c.args.words.now)
     c.requires.writing.partly c.requires.below c.requires.renewed.cut
 
 -- what is so of the level that was built
@@ -49,7 +49,7 @@ returns c =
         partly = is.partly;
         descent = descent_above old (words_at after) c.args.state.now c.args.left.item.end c.requires.writing.partly c.requires.below
             (omega arith)
-            (kept_after old (table_at left) (table_at after) (λ row. times row (rows_between level.lo c.args.left.item.end (old_nodes old level)))
+            (kept_after old (table_at left) (table_at after) (λ row. times_among row (rows_between level.lo c.args.left.item.end (old_nodes old level)))
             (ap (λ (v : NodeView). v.known.writer_state.words) leaves.view) leaves.gone_are c.pack_words-items.ensures.kept)
             c.requires.writing.descent;
         fits = c.requires.writing.fits;

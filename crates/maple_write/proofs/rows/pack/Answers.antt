@@ -1,6 +1,6 @@
 -- For `pack`: a node more.
 use Rattle.std.proofs.Common.{◌∙◌, ◌+◌, refl, arith}
-use Rattle.maple_node.specs.Nodes.{words_of}
+use Rattle.maple_node.specs.Nodes.{words_of_items}
 use Rattle.maple_node.specs.declared.item.NodeItem.{NodeItem}
 use Rattle.std.proofs.Common.{List, take, drop, ◌-◌}
 use Rattle.node_slots.specs.Seats.{writer_state, free_of}
@@ -39,7 +39,7 @@ loop-place-preserved c =
     record {
       same = fills_both old before after is.same c.put-node.ensures.same;
       packs = pack_more (writer_state old).words (writer_state before).words (writer_state after).words (free_of old) (free_of before) (free_of after) leaf c.args.start
-          c.loop-place.begin place (place + c.share.result) c.share.result items c.loop-place.packed.items c.push.new.self.items c.put-node.result (words_of leaf part)
+          c.loop-place.begin place (place + c.share.result) c.share.result items c.loop-place.packed.items c.push.new.self.items c.put-node.result (words_of_items leaf part)
           is.packs c.loop-place-test.true refl (record {
             some = c.share.ensures.some;
             within = c.share.ensures.within;

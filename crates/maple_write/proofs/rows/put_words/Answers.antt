@@ -1,8 +1,8 @@
 -- For `put_words`: the row that was taken is a node of the items.
 use Rattle.std.proofs.Common.{◌∙◌, ◌∷◌, ◌<◌, length, set, sym, ap, subst, List, ℕ}
 use Rattle.maple_node.specs.declared.item.NodeItem.{NodeItem}
-use Rattle.maple_node.specs.Nodes.{items_of}
-use Rattle.maple_node.specs.Levels.{at_of, read, IsNode, times}
+use Rattle.maple_node.specs.Nodes.{node_items}
+use Rattle.maple_node.specs.Levels.{at_of, items_at, IsNode, times_among}
 use Rattle.node_slots.specs.Seats.{writer_state, free_of}
 use Rattle.maple_write.proofs.Writers.{filled_words, taken_row, taken_moved}
 use Rattle.maple_write.proofs.Waiting.{fills_one}
@@ -14,7 +14,7 @@ pub returns-clause-node : goal.returns-clause-node
 returns-clause-node c limit full =
     let old = c.args.writer.now in
     let leaf = c.args.leaf in
-    let items = items_of leaf c.args.words.now in
+    let items = node_items leaf c.args.words.now in
     let words = filled_words old c.take_row_for.new.self c.fill.new.self c.unwrap-row.result.0 c.from.result c.args.words.now leaf items
     c.take_row_for.ensures.view c.fill.ensures.view c.requires.whole c.from.ensures in
     let there = taken_row old c.take_row_for.new.self c.take_row_for.result c.unwrap-row.result c.unwrap-row.ensures c.take_row_for.ensures.taken c.take_row_for.ensures.view in
@@ -30,19 +30,19 @@ pub returns-clause-items : goal.returns-clause-items
 returns-clause-items c =
     let old = c.args.writer.now in
     let leaf = c.args.leaf in
-    let items = items_of leaf c.args.words.now in
+    let items = node_items leaf c.args.words.now in
     let words = filled_words old c.take_row_for.new.self c.fill.new.self c.unwrap-row.result.0 c.from.result c.args.words.now leaf items
     c.take_row_for.ensures.view c.fill.ensures.view c.requires.whole c.from.ensures in
     let there = taken_row old c.take_row_for.new.self c.take_row_for.result c.unwrap-row.result c.unwrap-row.ensures c.take_row_for.ensures.taken c.take_row_for.ensures.view in
     let within = subst (λ (r : ℕ). r < length (writer_state old).words) (sym c.from.ensures) there in
-    ap (λ (rs : List (List ℕ)). read (at_of rs) leaf c.from.result) words
+    ap (λ (rs : List (List ℕ)). items_at (at_of rs) leaf c.from.result) words
     ∙ made-items (writer_state old).words c.from.result leaf c.args.start items within c.requires.ascends (items-plain leaf c.args.words.now)
 
 pub returns-clause-words : goal.returns-clause-words
 returns-clause-words c =
     let old = c.args.writer.now in
     let leaf = c.args.leaf in
-    filled_words old c.take_row_for.new.self c.fill.new.self c.unwrap-row.result.0 c.from.result c.args.words.now leaf (items_of leaf c.args.words.now)
+    filled_words old c.take_row_for.new.self c.fill.new.self c.unwrap-row.result.0 c.from.result c.args.words.now leaf (node_items leaf c.args.words.now)
     c.take_row_for.ensures.view c.fill.ensures.view c.requires.whole c.from.ensures
     ∙ ap (λ (ws : List ℕ). set (writer_state old).words c.from.result ws) (sym c.requires.whole)
 
@@ -61,4 +61,4 @@ pub returns-clause-taken : goal.returns-clause-taken
 returns-clause-taken c row =
     (taken_moved (free_of c.args.writer.now) (free_of c.take_row_for.new.self) (free_of c.fill.new.self) c.take_row_for.result c.unwrap-row.result _
     c.unwrap-row.ensures c.take_row_for.ensures.free c.fill.ensures.lists.0).times_are row
-    ∙ ap (λ (r : ℕ). times row (r ∷ free_of c.fill.new.self)) (sym c.from.ensures)
+    ∙ ap (λ (r : ℕ). times_among row (r ∷ free_of c.fill.new.self)) (sym c.from.ensures)

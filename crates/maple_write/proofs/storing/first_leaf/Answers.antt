@@ -1,7 +1,7 @@
 -- For `first_leaf`: the leaf is the tree, and row 0 is kept until it is left.
 use Rattle.std.proofs.Common.{◌≡◌, ◌∙◌, List, true, ap, sym, subst, arith}
 use Rattle.maple_node.specs.declared.item.NodeItem.{NodeItem}
-use Rattle.maple_node.specs.Nodes.{Ascends, IsPlain, words_of, end_of}
+use Rattle.maple_node.specs.Nodes.{Ascends, KeepsNoGap, words_of_items, items_end}
 use Rattle.maple_node.proofs.ItemEntries.{overwrite-ascends, overwrite-ends, overwrite-plain}
 use Rattle.node_slots.specs.declared.view.NodeView.{NodeView}
 use Rattle.maple_write.specs.Internal.Tables.{table_at}
@@ -29,7 +29,7 @@ put-top-requires-clause-plain c =
     let within = c.requires.limit in
     let gap = gap_is c.args.limit (omega arith) in
     let are = c.as_slice.ensures.value ∙ c.first_entries-entries.ensures.entries in
-    subst (λ (xs : List NodeItem). IsPlain true xs) (sym are) (overwrite-plain lo hi c.args.word (all_gap c.args.limit) gap.plain)
+    subst (λ (xs : List NodeItem). KeepsNoGap true xs) (sym are) (overwrite-plain lo hi c.args.word (all_gap c.args.limit) gap.plain)
 
 pub leave-requires : goal.leave-requires
 leave-requires c = record {
@@ -45,12 +45,12 @@ returns-clause-shaped c =
     let within = c.requires.limit in
     let gap = gap_is c.args.limit (omega arith) in
     let are = c.as_slice.ensures.value ∙ c.first_entries-entries.ensures.entries in
-    let ends : end_of 0 c.as_slice.result.now ≡ c.args.limit =
-    ap (end_of 0) are ∙ overwrite-ends lo hi c.args.word (all_gap c.args.limit) gap.ascends some within in
+    let ends : items_end 0 c.as_slice.result.now ≡ c.args.limit =
+    ap (items_end 0) are ∙ overwrite-ends lo hi c.args.word (all_gap c.args.limit) gap.ascends some within in
     let old = c.args.writer.now in
     let made = c.put-top.new.writer in
     let after = c.leave.new.self in
-    let is = leaf_made (table_at old) (table_at made) (table_at after) c.args.limit c.as_slice.result.now c.put-top.result (words_of true c.as_slice.result.now)
+    let is = leaf_made (table_at old) (table_at made) (table_at after) c.args.limit c.as_slice.result.now c.put-top.result (words_of_items true c.as_slice.result.now)
     (kept_zero old c.requires.kept) (omega arith) ends c.put-top.ensures.node c.put-top.ensures.items c.put-top.ensures.until c.put-top.ensures.words
     c.put-top.ensures.taken c.put-top.ensures.left (ap (λ (v : NodeView). v.known.writer_state.words) c.leave.ensures.view)
     (λ row. left_more made after 0 row c.leave.ensures.free c.leave.ensures.left) in
@@ -64,12 +64,12 @@ returns-clause-entries c =
     let within = c.requires.limit in
     let gap = gap_is c.args.limit (omega arith) in
     let are = c.as_slice.ensures.value ∙ c.first_entries-entries.ensures.entries in
-    let ends : end_of 0 c.as_slice.result.now ≡ c.args.limit =
-    ap (end_of 0) are ∙ overwrite-ends lo hi c.args.word (all_gap c.args.limit) gap.ascends some within in
+    let ends : items_end 0 c.as_slice.result.now ≡ c.args.limit =
+    ap (items_end 0) are ∙ overwrite-ends lo hi c.args.word (all_gap c.args.limit) gap.ascends some within in
     let old = c.args.writer.now in
     let made = c.put-top.new.writer in
     let after = c.leave.new.self in
-    let is = leaf_made (table_at old) (table_at made) (table_at after) c.args.limit c.as_slice.result.now c.put-top.result (words_of true c.as_slice.result.now)
+    let is = leaf_made (table_at old) (table_at made) (table_at after) c.args.limit c.as_slice.result.now c.put-top.result (words_of_items true c.as_slice.result.now)
     (kept_zero old c.requires.kept) (omega arith) ends c.put-top.ensures.node c.put-top.ensures.items c.put-top.ensures.until c.put-top.ensures.words
     c.put-top.ensures.taken c.put-top.ensures.left (ap (λ (v : NodeView). v.known.writer_state.words) c.leave.ensures.view)
     (λ row. left_more made after 0 row c.leave.ensures.free c.leave.ensures.left) in
@@ -83,7 +83,7 @@ returns-clause-limit c =
     let within = c.requires.limit in
     let gap = gap_is c.args.limit (omega arith) in
     let are = c.as_slice.ensures.value ∙ c.first_entries-entries.ensures.entries in
-    c.put-top.ensures.until ∙ ap (end_of 0) are ∙ overwrite-ends lo hi c.args.word (all_gap c.args.limit) gap.ascends some within
+    c.put-top.ensures.until ∙ ap (items_end 0) are ∙ overwrite-ends lo hi c.args.word (all_gap c.args.limit) gap.ascends some within
 
 pub returns-clause-free : goal.returns-clause-free
 returns-clause-free c =

@@ -1,7 +1,7 @@
 -- For `store_first`: the first leaf lists one entry among pages that are one gap.
 use Rattle.std.proofs.Common.{◌≡◌, ◌∙◌, [], ap, arith}
 use Rattle.maple_node.specs.Pairs.{overwritten}
-use Rattle.node_slots.specs.Seats.{sight}
+use Rattle.node_slots.specs.Seats.{node_sight}
 use Rattle.maple_write.specs.Internal.Tables.{table_at}
 use Rattle.maple_write.specs.Internal.Stores.{all_gap, tree_under}
 use Rattle.maple_write.proofs.Stores.{Stored, gap_spanned, gap_lo, gap_hi, slot_stored, gap_stored}
@@ -9,20 +9,20 @@ use Rattle.maple_write.proofs.storing.store_first.Goals as goal
 use Rattle.maple_write.proofs.storing.store_first.Goals.{After-first_leaf, After-first_leaf-2}
 
 -- what is there after a store of a slot
-slot_there : (c : After-first_leaf) → Stored (table_at c.first_leaf.new.writer) (sight c.args.writer.now).size.slots (tree_under c.first_leaf.result)
+slot_there : (c : After-first_leaf) → Stored (table_at c.first_leaf.new.writer) (node_sight c.args.writer.now).size.slots (tree_under c.first_leaf.result)
     (overwritten c.args.span.lo c.args.span.hi c.args.word [])
 slot_there c =
-    let slots = (sight c.args.writer.now).size.slots in
+    let slots = (node_sight c.args.writer.now).size.slots in
     let span = c.args.span in
     slot_stored (table_at c.first_leaf.new.writer) slots span.lo span.hi c.args.word (tree_under c.first_leaf.result) (all_gap c.args.limit)
     (gap_spanned c.args.limit slots span.lo span.hi c.requires.some c.requires.limit) c.requires.word c.if-word-ne0.true c.first_leaf.ensures.shaped
     c.first_leaf.ensures.entries
 
 -- and after one of a gap
-gap_there : (c : After-first_leaf-2) → Stored (table_at c.first_leaf-2.new.writer) (sight c.args.writer.now).size.slots (tree_under c.first_leaf-2.result)
+gap_there : (c : After-first_leaf-2) → Stored (table_at c.first_leaf-2.new.writer) (node_sight c.args.writer.now).size.slots (tree_under c.first_leaf-2.result)
     (overwritten c.args.span.lo c.args.span.hi 0 [])
 gap_there c =
-    let slots = (sight c.args.writer.now).size.slots in
+    let slots = (node_sight c.args.writer.now).size.slots in
     let span = c.args.span in
     let limit = c.args.limit in
     let some = c.requires.some in

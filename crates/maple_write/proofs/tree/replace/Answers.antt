@@ -2,7 +2,7 @@
 use Rattle.std.proofs.Common.{◌≡◌, ◌≢◌, ◌∙◌, ◌≤◌, ◌⊎◌, false, nat_eq, List, length, ap, sym, subst, refl, arith}
 use Rattle.std.proofs.lemmas.Bool.Decides.{nat_tests}
 use Rattle.maple_node.specs.declared.item.NodeItem.{NodeItem}
-use Rattle.maple_node.specs.Nodes.{end_of}
+use Rattle.maple_node.specs.Nodes.{items_end}
 use Rattle.maple_node.specs.Levels.{at_of, is_leaf, below, level_of, IsTower}
 use Rattle.maple_node.specs.Splices.{ending_by}
 use Rattle.node_slots.specs.declared.view.NodeView.{NodeView}
@@ -28,7 +28,7 @@ all_pages c =
     let same = is.tree in
     let limit = ap (λ (t : Rooted). t.top.end) same in
     let height = ap (λ (t : Rooted). t.height) same in
-    let Ends : Type 0 = (end_of 0 (ending_by state.lo (old_level table tree state.level)) ≡ 0) × (state.replacement.end ≡ tree.top.end) in
+    let Ends : Type 0 = (items_end 0 (ending_by state.lo (old_level table tree state.level)) ≡ 0) × (state.replacement.end ≡ tree.top.end) in
     let ends : Ends = elim c.loop-state-test.branch as (λ _. Ends) [
       | then-loop-state-test+else-not-done w ↦ let whole = is.whole w.if-not-done.false in (whole.1.0, whole.1.1.0 ∙ sym limit)
       | else-loop-state-test w ↦
@@ -71,8 +71,8 @@ loop-state-preserved c =
     let level = ap (λ (s : WriteState). s.level) built.up in
     let made = new_level (table_at after) (level_in state) in
     let was = new_level (table_at loop.writer) (level_in loop.state) in
-    let starts : state.replacement.begin ≡ end_of 0 (ending_by state.lo (old_level (table_at after) state.descent.now.tree state.level)) =
-    built.begin ∙ sym (ap (λ (s : WriteState). end_of 0 (ending_by s.lo (old_level (table_at after) s.descent.now.tree s.level))) built.up) in
+    let starts : state.replacement.begin ≡ items_end 0 (ending_by state.lo (old_level (table_at after) state.descent.now.tree state.level)) =
+    built.begin ∙ sym (ap (λ (s : WriteState). items_end 0 (ending_by s.lo (old_level (table_at after) s.descent.now.tree s.level))) built.up) in
     let same = ap (λ (s : WriteState). s.descent.now.tree) built.up ∙ is.tree in
     record {
       same = fills_both c.args.writer.now loop.writer after is.same built.fills;
@@ -106,7 +106,7 @@ pub new_root-requires-clause-tower : goal.new_root-requires-clause-tower
 new_root-requires-clause-tower c =
     let state = c.loop-state.state in
     let ready = all_pages (goal.at.new_root-requires-clause-tower c).After-leave_upper in
-    subst (λ (v : NodeView). IsTower (at_of v.known.writer_state.words) (end_of 0 state.replacement.items.items) 0 state.level state.replacement.items.items)
+    subst (λ (v : NodeView). IsTower (at_of v.known.writer_state.words) (items_end 0 state.replacement.items.items) 0 state.level state.replacement.items.items)
     (sym c.leave_upper.ensures.view) ready.tower
 
 pub new_root-requires-clause-ascends : goal.new_root-requires-clause-ascends

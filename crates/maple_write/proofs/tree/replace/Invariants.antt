@@ -1,6 +1,6 @@
 -- For `replace`: the levels below one are built.
 use Rattle.std.proofs.Common.{◌-◌, ◌≡◌, ◌≤◌, ◌+◌, ◌*◌, true, false, length}
-use Rattle.maple_node.specs.Nodes.{end_of}
+use Rattle.maple_node.specs.Nodes.{items_end}
 use Rattle.maple_node.specs.Levels.{below}
 use Rattle.maple_node.specs.Trees.{entries_of}
 use Rattle.maple_node.specs.Splices.{ending_by, overwrite}
@@ -19,7 +19,7 @@ invariant-loop-state l = record {
   entries : new_entries (table_at l.writer) (level_in l.state)
       ≡ overwrite l.fn.span.lo l.fn.span.hi l.fn.word (entries_of (words_at l.fn.writer) (tree_under l.tree));
   free : length (free_of l.fn.writer) ≤ length (free_of l.writer) + 3 * l.state.level;
-  whole : l.done ≡ true → (1 ≤ l.state.level) × ((end_of 0 (ending_by l.state.lo (old_level (table_at l.writer) l.state.descent.now.tree l.state.level)) ≡ 0)
+  whole : l.done ≡ true → (1 ≤ l.state.level) × ((items_end 0 (ending_by l.state.lo (old_level (table_at l.writer) l.state.descent.now.tree l.state.level)) ≡ 0)
       × ((l.state.replacement.end ≡ l.tree.top.end) × (length l.state.replacement.items.items ≡ 1)));
   wide : 1 ≤ l.state.level → l.done ≡ false → 2 ≤ length (new_level (table_at l.writer) (level_in l.state));
   under : 2 ≤ l.state.level → 2 ≤ length (below (words_at l.writer) false (new_level (table_at l.writer) (level_in l.state)));

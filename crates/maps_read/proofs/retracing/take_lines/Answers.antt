@@ -3,7 +3,7 @@ use Rattle.std.proofs.Common.{◌≡◌, ◌+◌, ◌-◌, ◌∙◌, ℕ, drop,
 use Rattle.text_lexer.specs.Lines.{lines_from}
 use Rattle.text_lexer.specs.Reading.{line_view}
 use Rattle.maps_read.specs.Retracing.{nothing_taken, with_lines, lines_taken}
-use Rattle.maps_read.specs.Internal.Taking.{IsTaken, what_taken}
+use Rattle.maps_read.specs.Internal.Taking.{AreLinesTaken, what_taken}
 use Rattle.maps_read.proofs.Kept.{line_kept, nothing_kept}
 use Rattle.maps_read.proofs.RawMaps.{AreReadAs, maps_read_as}
 use Rattle.maps_read.proofs.Steps.{dropped_item, some_left, take_more, read_more, all_taken}
@@ -17,7 +17,7 @@ loop-line-init c =
     record {
       taken = ap (λ t. with_lines t (lines_from 1 (n - n) c.args.bytes.now) c.args.lines.now) c.new-taken.ensures
           ∙ ap (λ (s : ℕ). with_lines nothing_taken (lines_from 1 s c.args.bytes.now) c.args.lines.now) start;
-      right = subst IsTaken (sym c.new-taken.ensures) nothing_kept;
+      right = subst AreLinesTaken (sym c.new-taken.ensures) nothing_kept;
       read = subst (λ (s : ℕ). AreReadAs (lines_from 1 s c.args.bytes.now) c.args.lines.now) (sym start) (maps_read_as c.args.bytes.now c.args.lines.now c.requires);
       within = omega arith;
       counted = omega arith;

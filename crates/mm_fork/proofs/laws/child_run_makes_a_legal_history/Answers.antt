@@ -1,9 +1,6 @@
 -- For `child_run_makes_a_legal_history`: its goals.
-use Rattle.mm_fork.proofs.ChildRuns.{run_behind, child_is_legal, child_journal}
+use Rattle.mm_fork.proofs.ChildRuns.{child_is_legal, child_journal}
 use Rattle.mm_fork.proofs.laws.child_run_makes_a_legal_history.Goals as goal
-
-pub returns-clause-run : goal.returns-clause-run
-returns-clause-run c = run_behind
 
 pub returns-clause-legal : goal.returns-clause-legal
 returns-clause-legal c = child_is_legal

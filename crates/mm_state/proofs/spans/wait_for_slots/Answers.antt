@@ -3,7 +3,7 @@ use Rattle.std.proofs.Common.{◌<◌, ◌+◌, ◌∙◌, refl, length, ap, ari
 use Rattle.std.proofs.lemmas.Bool.Decides.{nat_tests}
 use Rattle.std.proofs.lemmas.List.{length-map}
 use Rattle.area_slots.specs.declared.leaving.Leaving.{Leaving}
-use Rattle.area_slots.specs.Slots.{SlotSet, gone_by, slots_of}
+use Rattle.area_slots.specs.Slots.{SlotSet, gone_by, slots_left}
 use Rattle.area_tree.specs.AreaTrees.{AreaTreeView}
 use Rattle.mm_state.proofs.Hanging.{freed_freed, seen_freed}
 use Rattle.mm_state.proofs.Readying.{can_free}
@@ -33,7 +33,7 @@ loop-init g c =
         few,
         c.count_free.ensures,
         ap (λ (s : SlotSet). length s.free) c.free_elapsed.ensures,
-        length-append c.args.slots.now.free (slots_of gone),
+        length-append c.args.slots.now.free (slots_left gone),
         length-map gone (λ (l : Leaving). l.slot),
       );
       rounds = (0, omega arith);

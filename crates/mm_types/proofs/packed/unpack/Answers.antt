@@ -4,7 +4,7 @@ use Rattle.std.specs.Result.{OkIff, result_ok}
 use Rattle.std.proofs.Common.{ℕ, ◌≡◌, ◌<◌, ◌^◌, ◌/◌, ◌∙◌, if◌then◌else◌, sym, refl, Bool, true, false, ◌&&◌, nat_lt, List, [], ◌∷◌, length, get_or, Result, Ok, Err, Some, None, arith}
 use Rattle.std.proofs.lemmas.Bool.Decides.{nat_tests}
 use Rattle.mm_types.specs.declared.area.Record.{Record}
-use Rattle.mm_types.specs.Packed.{is_attached, is_valid, fields_of, unpacked}
+use Rattle.mm_types.specs.Packed.{is_attached, is_valid, unpacked_record, unpacked}
 use Rattle.mm_types.proofs.packed.unpack.Goals as goal
 use Rattle.mm_types.proofs.packed.unpack.Goals.{then-is_attached, else-is_attached}
 
@@ -23,7 +23,7 @@ by_tests false valid test area tests = rw tests
 
 -- what four words with such an object are unpacked as, by the tests of the first and of the record
 row_unpacked : (words : List ℕ) (area : Record) (test : Bool) → length words ≡ 4 → get_or words 2 0 < 2 ^ 32
-    → fields_of (get_or words 0 0) (get_or words 1 0) (get_or words 2 0) (get_or words 3 0) ≡ area
+    → unpacked_record (get_or words 0 0) (get_or words 1 0) (get_or words 2 0) (get_or words 3 0) ≡ area
     → test ≡ (is_attached (get_or words 0 0) && is_valid area) → then_some test area ≡ unpacked words
 unfolding unpacked
 row_unpacked [] area test four small fields tests = absurd (cc)
@@ -36,7 +36,7 @@ row_unpacked (first ∷ hi ∷ object ∷ offset ∷ []) area test four small fi
 row_unpacked (first ∷ hi ∷ object ∷ offset ∷ more ∷ rest) area test four small fields tests = absurd (cc)
 
 pub returns : goal.returns
-unfolding fields_of
+unfolding unpacked_record
 returns c = let object = small_object c.try_from.result (get_or c.args.words.now 2 0) c.in_ok-object.object c.try_from.ensures c.in_ok-object.ensures.value in
     let area : Record = record {
       span = record { lo = get_or c.args.words.now 0 0 / 65536; hi = get_or c.args.words.now 1 0 };
@@ -44,7 +44,7 @@ returns c = let object = small_object c.try_from.result (get_or c.args.words.now
       object = c.in_ok-object.object;
       offset = get_or c.args.words.now 3 0;
     } in
-    let fields : fields_of (get_or c.args.words.now 0 0) (get_or c.args.words.now 1 0) (get_or c.args.words.now 2 0) (get_or c.args.words.now 3 0) ≡ area = cc in
+    let fields : unpacked_record (get_or c.args.words.now 0 0) (get_or c.args.words.now 1 0) (get_or c.args.words.now 2 0) (get_or c.args.words.now 3 0) ≡ area = cc in
     c.then_some.ensures ∙ row_unpacked c.args.words.now area c.if-is_attached.then_some c.told-words object.0 fields
     (elim c.if-is_attached.branch [
       | then-is_attached w ↦ w.then_some-is ∙ w.is_valid.ensures.test ∙ rw (sym c.is_attached.ensures ∙ w.if-is_attached.true) refl

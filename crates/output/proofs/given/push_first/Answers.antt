@@ -7,16 +7,16 @@ use Rattle.trace_reader.specs.Values.{child_of}
 use Rattle.output.specs.Output.{forked_text}
 use Rattle.output.specs.declared.answers.Answer.{Answer}
 use Rattle.output.specs.declared.answers.Answer.TheVariants as answers
-use Rattle.output.specs.Internal.Printed.{first_text, shown}
+use Rattle.output.specs.Internal.Printed.{first_text, content_of_answer}
 use Rattle.output.proofs.given.push_first.Goals as goal
 
 forked_is : (op : Op) (answer : Answer) (child count : ℕ) (areas : List Record) → op ≡ ops.Fork child → answer ≡ answers.List → length areas ≡ count
-    → codes "child " ++ (decimal child ++ (codes " areas " ++ (decimal count ++ codes "\n"))) ≡ first_text (child_of op) (shown areas answer)
+    → codes "child " ++ (decimal child ++ (codes " areas " ++ (decimal count ++ codes "\n"))) ≡ first_text (child_of op) (content_of_answer areas answer)
 unfolding forked_text
 forked_is op answer child count areas forks is many =
     ap (λ (n : ℕ). codes "child " ++ (decimal child ++ (codes " areas " ++ (decimal n ++ codes "\n")))) (sym many)
-    ∙ ap (λ (o : Op). first_text (child_of o) (shown areas answers.List)) (sym forks)
-    ∙ ap (λ (a : Answer). first_text (child_of op) (shown areas a)) (sym is)
+    ∙ ap (λ (o : Op). first_text (child_of o) (content_of_answer areas answers.List)) (sym forks)
+    ∙ ap (λ (a : Answer). first_text (child_of op) (content_of_answer areas a)) (sym is)
 
 pub returns-in-Fork-List : goal.returns-in-Fork-List
 returns-in-Fork-List c = λ areas many.

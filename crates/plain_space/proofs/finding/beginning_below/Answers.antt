@@ -2,14 +2,14 @@
 use Rattle.std.proofs.Common.{List, nat_lt, rules, tests}
 use Rattle.std.proofs.lemmas.List.Sorted.{IsPartitionPoint-from_clause, IsPartitionedBy-ltb}
 use Rattle.mm_types.specs.declared.area.Record.{Record}
-use Rattle.plain_space.specs.Internal.Chunks.{low_of}
+use Rattle.plain_space.specs.Internal.Chunks.{chunk_low}
 use Rattle.plain_space.proofs.Among.{lows_ordered}
 use Rattle.plain_space.proofs.Fronting.{prefix_from_partition}
 use Rattle.plain_space.proofs.finding.beginning_below.Goals as goal
 
 pub returns-clause-value : goal.returns-clause-value
 returns-clause-value c = let chunks = c.args.chunks.now in
-    prefix_from_partition (λ (chunk : List Record). nat_lt (low_of chunk) c.args.page) chunks c.partition_point.result c.partition_point.ensures.bound
-    (IsPartitionPoint-from_clause (λ (chunk : List Record). nat_lt (low_of chunk) c.args.page) chunks c.partition_point.result
-    c.partition_point.ensures.partitioned (IsPartitionedBy-ltb low_of chunks c.args.page (lows_ordered chunks c.requires))
+    prefix_from_partition (λ (chunk : List Record). nat_lt (chunk_low chunk) c.args.page) chunks c.partition_point.result c.partition_point.ensures.bound
+    (IsPartitionPoint-from_clause (λ (chunk : List Record). nat_lt (chunk_low chunk) c.args.page) chunks c.partition_point.result
+    c.partition_point.ensures.partitioned (IsPartitionedBy-ltb chunk_low chunks c.args.page (lows_ordered chunks c.requires))
     (λ x r q k. search (rules, tests)))

@@ -2,14 +2,14 @@
 use Rattle.std.proofs.Common.{List, nat_le, rules, tests}
 use Rattle.std.proofs.lemmas.List.Sorted.{IsPartitionPoint-from_clause, IsPartitionedBy-leb}
 use Rattle.mm_types.specs.declared.area.Record.{Record}
-use Rattle.plain_space.specs.Internal.Chunks.{high_of}
+use Rattle.plain_space.specs.Internal.Chunks.{chunk_high}
 use Rattle.plain_space.proofs.Among.{highs_ordered}
 use Rattle.plain_space.proofs.Fronting.{prefix_from_partition}
 use Rattle.plain_space.proofs.finding.ending_by.Goals as goal
 
 pub returns-clause-value : goal.returns-clause-value
 returns-clause-value c = let chunks = c.args.chunks.now in
-    prefix_from_partition (λ (chunk : List Record). nat_le (high_of chunk) c.args.page) chunks c.partition_point.result c.partition_point.ensures.bound
-    (IsPartitionPoint-from_clause (λ (chunk : List Record). nat_le (high_of chunk) c.args.page) chunks c.partition_point.result
-    c.partition_point.ensures.partitioned (IsPartitionedBy-leb high_of chunks c.args.page (highs_ordered chunks c.requires))
+    prefix_from_partition (λ (chunk : List Record). nat_le (chunk_high chunk) c.args.page) chunks c.partition_point.result c.partition_point.ensures.bound
+    (IsPartitionPoint-from_clause (λ (chunk : List Record). nat_le (chunk_high chunk) c.args.page) chunks c.partition_point.result
+    c.partition_point.ensures.partitioned (IsPartitionedBy-leb chunk_high chunks c.args.page (highs_ordered chunks c.requires))
     (λ x r q k. search (rules, tests)))

@@ -4,17 +4,17 @@ use Rattle.std.proofs.lemmas.Bool.Decides.{nat_tests}
 use Rattle.std.proofs.lemmas.List.{append-nil, take-append-drop}
 use Rattle.std.proofs.lemmas.List.Elements.{All-append, All-cons, All-nil}
 use Rattle.mm_types.specs.declared.area.Record.{Record}
-use Rattle.plain_space.specs.Internal.Chunks.{areas_of, IsFilled}
+use Rattle.plain_space.specs.Internal.Chunks.{areas_in_chunks, IsFilled}
 use Rattle.plain_space.proofs.Parting.{areas_of-append}
 use Rattle.plain_space.proofs.store.deal.Goals as goal
 
 -- with one chunk more the areas and the rest are what they were
 dealt : (chunks : List (List Record)) (chunk part tail rest areas : List Record) (count : ℕ) → chunk ≡ part → part ≡ take count rest → tail ≡ drop count rest
-    → areas_of chunks ++ rest ≡ areas → areas_of (chunks ++ (chunk ∷ [])) ++ tail ≡ areas
+    → areas_in_chunks chunks ++ rest ≡ areas → areas_in_chunks (chunks ++ (chunk ∷ [])) ++ tail ≡ areas
 dealt chunks chunk part tail rest areas count first second third whole =
-    ap (λ list. list ++ tail) (areas_of-append chunks (chunk ∷ []) ∙ ap (λ list. areas_of chunks ++ list) (append-nil chunk))
-    ∙ append_assoc (areas_of chunks) chunk tail
-    ∙ ap (λ list. areas_of chunks ++ list) (ap (λ list. list ++ tail) (first ∙ second) ∙ ap (λ list. take count rest ++ list) third ∙ take-append-drop count rest)
+    ap (λ list. list ++ tail) (areas_of-append chunks (chunk ∷ []) ∙ ap (λ list. areas_in_chunks chunks ++ list) (append-nil chunk))
+    ∙ append_assoc (areas_in_chunks chunks) chunk tail
+    ∙ ap (λ list. areas_in_chunks chunks ++ list) (ap (λ list. list ++ tail) (first ∙ second) ∙ ap (λ list. take count rest ++ list) third ∙ take-append-drop count rest)
     ∙ whole
 
 some_left : (count : ℕ) → (count == 0) ≡ false → 0 < count
@@ -27,7 +27,7 @@ loop-rest-preserved c =
     let filled : IsFilled c.fill.new.self =
     (omega (arith, ap length c.fill.ensures, c.split_at.ensures.front_len, c.min.ensures, some), omega (arith, ap length c.fill.ensures, c.split_at.ensures.front_len, c.min.ensures)) in
     record {
-      areas = ap (λ list. areas_of list ++ c.split_at.result.1.now) c.push_reserved.ensures.items
+      areas = ap (λ list. areas_in_chunks list ++ c.split_at.result.1.now) c.push_reserved.ensures.items
           ∙ dealt c.loop-rest.chunks.items c.fill.new.self c.split_at.result.0.now c.split_at.result.1.now rest c.args.areas.now c.min.result
           c.fill.ensures c.split_at.ensures.front c.split_at.ensures.back c.loop-rest.invariant.areas;
       filled = subst (λ (list : List (List Record)). All IsFilled list) (sym c.push_reserved.ensures.items)

@@ -4,7 +4,7 @@ use Rattle.std.specs.Result.{is_ok}
 use Rattle.std.proofs.lemmas.Bool.{cond-true}
 use Rattle.std.proofs.lemmas.List.{get_or_read, take_rest, take-append-drop}
 use Rattle.mm_types.specs.declared.area.Record.{Record}
-use Rattle.plain_space.specs.Internal.Chunks.{areas_of, IsFilled}
+use Rattle.plain_space.specs.Internal.Chunks.{areas_in_chunks, IsFilled}
 use Rattle.plain_space.proofs.Filling.{divided_areas, divided_filled, lower_filled, upper_filled}
 use Rattle.plain_space.proofs.store.divide.Goals as goal
 
@@ -25,7 +25,7 @@ returns-clause-areas c =
     let lower = c.keep_first.ensures ∙ ap (take half) read in
     let upper = upper_is chunk c.index_mut-lower.result.now c.areas-2.result.now c.fill.new.self half read c.areas-2.ensures c.fill.ensures in
     let fits : is_ok c.insert-fits.result ≡ true = c.insert-fits.ensures.succeeds c.requires.room in
-    ap areas_of (c.insert-fits.ensures.items ∙ cond-true _ _ _ fits)
+    ap areas_in_chunks (c.insert-fits.ensures.items ∙ cond-true _ _ _ fits)
     ∙ divided_areas chunks place c.keep_first.new.self c.fill.new.self within
     (ap (λ list. list ++ c.fill.new.self) lower ∙ ap (λ list. take half chunk ++ list) upper ∙ take-append-drop half chunk)
 

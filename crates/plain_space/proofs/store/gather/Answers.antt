@@ -1,7 +1,7 @@
 -- For `gather` of store.rt: its goals.
 use Rattle.std.proofs.Common.{◌≡◌, ◌++◌, [], length, take, ap, ◌∙◌, sym, arith}
 use Rattle.std.proofs.lemmas.List.{get_or_read}
-use Rattle.plain_space.specs.Internal.Chunks.{areas_of}
+use Rattle.plain_space.specs.Internal.Chunks.{areas_in_chunks}
 use Rattle.plain_space.proofs.Parting.{areas_more, areas_within}
 use Rattle.plain_space.proofs.store.gather.Goals as goal
 
@@ -29,7 +29,7 @@ loop-chunk-preserved c =
     record {
       items = c.append.ensures.items
           ∙ ap (λ front. front ++ c.areas.result.now) c.loop-chunk.invariant.items
-          ∙ ap (λ chunk. areas_of (take place chunks) ++ chunk) read
+          ∙ ap (λ chunk. areas_in_chunks (take place chunks) ++ chunk) read
           ∙ sym (areas_more chunks place c.loop-chunk-test.true);
       room = c.append.ensures.room ∙ c.loop-chunk.invariant.room;
     }

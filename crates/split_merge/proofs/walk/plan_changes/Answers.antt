@@ -2,7 +2,7 @@
 use Rattle.std.proofs.Common.{◌≡◌, ◌<◌, ◌-◌, ◌++◌, [], ◌∷◌, List, IfSome, map, length, refl, ap, sym, subst, ◌∙◌, arith}
 use Rattle.mm_types.specs.declared.area.Span.{Span}
 use Rattle.mm_types.specs.declared.area.Record.{Record}
-use Rattle.split_merge.specs.Internal.Becoming.{low_of, high_of, parts_left, BeginsOne}
+use Rattle.split_merge.specs.Internal.Becoming.{lower_span, upper_span, parts_left, BeginsOne}
 use Rattle.split_merge.specs.declared.planner.Planner.{Planner}
 use Rattle.split_merge.specs.Internal.Planner.{Event, planned, events_along, weight}
 use Rattle.split_merge.proofs.Planning.{same_plan}
@@ -41,8 +41,8 @@ loop-area-preserved-then-area-high g c = let areas : List Record = g.A.Areas.lis
     let area = c.in-Some.area in
     let order = in_order _ areas c.requires.canonical in
     let next = next_is areas c.loop-area.page area order (sym c.from.ensures ∙ c.in-Some.is) in
-    let low : (low_of becoming).hi < area.span.lo = omega (arith, c.if-low-area.true, ap (λ (s : Span). s.hi) c.low-low.ensures) in
-    let high : area.span.hi < (high_of becoming).lo = omega (arith, c.if-area-high.true, ap (λ (s : Span). s.lo) c.high-high.ensures) in
+    let low : (lower_span becoming).hi < area.span.lo = omega (arith, c.if-low-area.true, ap (λ (s : Span). s.hi) c.low-low.ensures) in
+    let high : area.span.hi < (upper_span becoming).lo = omega (arith, c.if-area-high.true, ap (λ (s : Span). s.lo) c.high-high.ensures) in
     let far = next_far becoming c.requires.spans areas order c.loop-area.page area next low high in
     let begins = coming_high becoming c.requires.spans c.loop-area.planner area.span.lo c.loop-area.invariant.coming low in
     let after = ap (λ (s : Span). s.lo - 1) c.high-high.ensures in
@@ -58,7 +58,7 @@ loop-area-preserved-then-area-high g c = let areas : List Record = g.A.Areas.lis
       );
       planned = ap (λ changes. c.pass.new.plan.changes ++ changes)
           (passed_planned becoming c.requires.spans areas order area (c.high-high.result.lo - 1) c.pass.new.self next.valid next.spares c.pass.ensures.pending c.pass.ensures.merging
-          (subst (λ coming. IfSome coming (λ (new : Record). new.span.lo ≡ (high_of becoming).lo)) (sym c.pass.ensures.coming) begins) low high after)
+          (subst (λ coming. IfSome coming (λ (new : Record). new.span.lo ≡ (upper_span becoming).lo)) (sym c.pass.ensures.coming) begins) low high after)
           ∙ next_planned becoming c.requires.spans areas order c.loop-area.page area.span.hi (Event.Passed area ∷ []) c.pass.ensures.along far
           ∙ c.loop-area.invariant.planned;
       coming = still_begins becoming c.loop-area.planner.coming c.pass.new.self.coming c.pass.ensures.along.coming c.loop-area.invariant.coming;

@@ -3,7 +3,7 @@ use Rattle.std.proofs.Common.{◌≡◌, ◌+◌, ◌-◌, ◌≤◌, length}
 use Rattle.std.specs.Prelude.{None}
 use Rattle.text_lexer.specs.Lines.{lines_from, raw_lines}
 use Rattle.step_script.specs.declared.script.TheConstants.{MOST_LINES}
-use Rattle.step_script.specs.Grammar.{after_lines}
+use Rattle.step_script.specs.Grammar.{after_script_lines}
 use Rattle.step_script.specs.Values.{IsSoFar}
 use Rattle.step_script.proofs.reading.read_lines.Given as goal
 
@@ -11,8 +11,8 @@ use Rattle.step_script.proofs.reading.read_lines.Given as goal
 -- one, which no line that was read has reached.
 abbrev pub invariant-loop-rest : goal.invariant-loop-rest
 invariant-loop-rest l = record {
-  read : after_lines l.script (lines_from l.number (length l.bytes - length l.rest) l.rest)
-      ≡ after_lines None (raw_lines l.bytes);
+  read : after_script_lines l.script (lines_from l.number (length l.bytes - length l.rest) l.rest)
+      ≡ after_script_lines None (raw_lines l.bytes);
   within : length l.rest ≤ length l.bytes;
   fits : IsSoFar l.number l.script;
   few : l.number ≤ MOST_LINES + 1;

@@ -1,8 +1,8 @@
 -- For `read_lines`: its goals.
 use Rattle.std.proofs.Common.{◌≡◌, ◌∙◌, ℕ, ◌+◌, ◌-◌, length, sym, ap, arith}
 use Rattle.std.proofs.lemmas.Bool.Decides.{nat_tests}
-use Rattle.trace_reader.specs.Grammar.{after_lines}
-use Rattle.trace_reader.specs.Lines.{after_line}
+use Rattle.trace_reader.specs.Grammar.{after_trace_lines}
+use Rattle.trace_reader.specs.Lines.{after_trace_line}
 use Rattle.text_lexer.specs.Lines.{lines_from}
 use Rattle.trace_reader.specs.Reading.{so_far}
 use Rattle.text_lexer.specs.Reading.{line_view}
@@ -26,8 +26,8 @@ loop-rest-preserved c =
     ≡ length c.args.bytes.now - length more =
     omega (arith, c.first_line.ensures.shorter, c.loop-rest.invariant.within) in
     record {
-      read = ap (λ (n : ℕ). after_lines after (lines_from (number + 1) n more)) (sym start)
-          ∙ first_good after_line before after _ _ line _ c.loop-rest.invariant.read c.first_line.ensures.line c.in_default.ensures.added;
+      read = ap (λ (n : ℕ). after_trace_lines after (lines_from (number + 1) n more)) (sym start)
+          ∙ first_good after_trace_line before after _ _ line _ c.loop-rest.invariant.read c.first_line.ensures.line c.in_default.ensures.added;
       known = after_line-good before after line number c.loop-rest.invariant.known c.first_line.ensures.number
           (omega (arith, c.loop-rest.auto.number-fits)) c.in_default.ensures.added;
       within = omega (arith, c.first_line.ensures.shorter, c.loop-rest.invariant.within);
@@ -37,4 +37,4 @@ loop-rest-preserved c =
 pub returns : goal.returns
 returns c =
     let none : length c.loop-rest.rest.now ≡ 0 = grind (arith, nat_tests, c.is_empty.ensures, c.loop-rest-test.false) in
-    none_left after_line _ _ _ c.loop-rest.rest.now _ none c.loop-rest.invariant.read
+    none_left after_trace_line _ _ _ c.loop-rest.rest.now _ none c.loop-rest.invariant.read

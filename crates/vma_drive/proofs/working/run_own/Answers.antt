@@ -37,27 +37,27 @@ returns-clause-ran g c =
     (get_or c.args.round.owed.now c.args.caller 0) c.args.pass.now c.loop-index.pass)
     (shown_is c.args.round.places.now c.args.caller own c.index-round-caller.result c.as_slice-own.result.now its c.index-round-caller.is (c.as_slice-own.ensures.value ∙ ap (λ (v : Vec ℕ Global). v.items) (sym c.index-round-caller.is))) c.loop-index.invariant.to.ran
 
-pub run_op-requires-clause-left : goal.run_op-requires-clause-left
-run_op-requires-clause-left g c =
+pub run_told-requires-clause-left : goal.run_told-requires-clause-left
+run_told-requires-clause-left g c =
     some_left c.args.round.lines.now _ _ c.as_slice-own.result.now _ _ c.loop-index.index _ _
     (shown_stand c.args.round.lines.now c.args.round.places.now c.args.caller c.index-round-caller.result c.as_slice-own.result.now c.requires.places c.requires.caller.0 c.index-round-caller.is (c.as_slice-own.ensures.value ∙ ap (λ (v : Vec ℕ Global). v.items) (sym c.index-round-caller.is))) c.loop-index-test.true c.loop-index.invariant.to c.requires.left
 
 pub returns-in_default-clause-ran : goal.returns-in_default-clause-ran
 returns-in_default-clause-ran g c =
     λ own its. subst (λ (l : List ℕ). RanRound (lines_of c.args.round.lines.now c.args.caller) c.args.round.rounds.now l c.args.round.number
-    (get_or c.args.round.owed.now c.args.caller 0) c.args.pass.now c.run_op.new.pass)
+    (get_or c.args.round.owed.now c.args.caller 0) c.args.pass.now c.run_told.new.pass)
     (shown_is c.args.round.places.now c.args.caller own c.index-round-caller.result c.as_slice-own.result.now its c.index-round-caller.is (c.as_slice-own.ensures.value ∙ ap (λ (v : Vec ℕ Global). v.items) (sym c.index-round-caller.is)))
-    (run_stop _ _ _ _ _ _ _ _ _ c.loop-index.invariant.to c.run_op.ensures.later (stopped _ _ c.in_default.not-Ok c.run_op.ensures.err)).ran
+    (run_stop _ _ _ _ _ _ _ _ _ c.loop-index.invariant.to c.run_told.ensures.later (stopped _ _ c.in_default.not-Ok c.run_told.ensures.err)).ran
 
 pub loop-index-preserved : goal.loop-index-preserved
 loop-index-preserved g c =
     record {
-      pass = c.run_op.ensures.pass;
+      pass = c.run_told.ensures.pass;
       to = run_line c.args.round.lines.now _ _ _ _ _ _ _ _ _ _
-          (shown_stand c.args.round.lines.now c.args.round.places.now c.args.caller c.index-round-caller.result c.as_slice-own.result.now c.requires.places c.requires.caller.0 c.index-round-caller.is (c.as_slice-own.ensures.value ∙ ap (λ (v : Vec ℕ Global). v.items) (sym c.index-round-caller.is))) c.loop-index-test.true c.loop-index.invariant.to c.run_op.ensures.later c.in-Ok.ensures.ok c.if-round-place.false;
+          (shown_stand c.args.round.lines.now c.args.round.places.now c.args.caller c.index-round-caller.result c.as_slice-own.result.now c.requires.places c.requires.caller.0 c.index-round-caller.is (c.as_slice-own.ensures.value ∙ ap (λ (v : Vec ℕ Global). v.items) (sym c.index-round-caller.is))) c.loop-index-test.true c.loop-index.invariant.to c.run_told.ensures.later c.in-Ok.ensures.ok c.if-round-place.false;
     }
 
-pub run_op-requires-clause-op : goal.run_op-requires-clause-op
-run_op-requires-clause-op g c =
+pub run_told-requires-clause-op : goal.run_told-requires-clause-op
+run_told-requires-clause-op g c =
     c.requires.lines _ _ (place_in c.args.round.lines.now _ c.as_slice-own.result.now c.loop-index.index
     (shown_stand c.args.round.lines.now c.args.round.places.now c.args.caller c.index-round-caller.result c.as_slice-own.result.now c.requires.places c.requires.caller.0 c.index-round-caller.is (c.as_slice-own.ensures.value ∙ ap (λ (v : Vec ℕ Global). v.items) (sym c.index-round-caller.is))) c.loop-index-test.true)

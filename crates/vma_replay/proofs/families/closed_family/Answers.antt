@@ -4,7 +4,7 @@ use Rattle.history.specs.Parents.{parent_trace}
 use Rattle.history.proofs.OneSpace.{parent_is_trace}
 use Rattle.mm_space.specs.Closing.{ClosedView}
 use Rattle.mm_types.specs.declared.call.Entry.{Entry}
-use Rattle.vma_replay.specs.Internal.Families.{AreRunsOfChildren, IsForkOf, IsOfParent}
+use Rattle.vma_replay.specs.Internal.Families.{AreRunsOfChildren, IsForkOf, IsParentJournal}
 use Rattle.vma_replay.proofs.Parents.{bears, family_made, found_right, legal_items}
 use Rattle.vma_replay.proofs.families.closed_family.Goals as goal
 
@@ -15,7 +15,7 @@ forks_of-requires g c =
 
 pub children_runs-requires-clause-parent : goal.children_runs-requires-clause-parent
 children_runs-requires-clause-parent g c lifetimes outlives =
-    subst (IsOfParent c.args.trace.now.config) (sym c.journal.ensures)
+    subst (IsParentJournal c.args.trace.now.config) (sym c.journal.ensures)
     (bears c.args.mode c.args.trace.now c.in_ok-run.run' c.requires.trace c.in_ok-run.ensures.run)
 
 pub children_runs-requires-clause-forks : goal.children_runs-requires-clause-forks

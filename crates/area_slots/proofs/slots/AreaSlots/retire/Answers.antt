@@ -2,12 +2,12 @@
 use Rattle.std.proofs.Common.{◌≡◌, ◌≤◌, ◌++◌, ◌∷◌, length, arith, subst, sym, ap, ◌∙◌, true, false, deque_len, deque_capacity}
 use Rattle.std.specs.List.{insert}
 use Rattle.std.specs.List.Sorted.{IsPartitionPoint}
-use Rattle.area_slots.specs.Slots.{SlotSet, IsTaken, left_by, gone_by, gone_after}
+use Rattle.area_slots.specs.Slots.{SlotSet, IsSlotTaken, retired_by, gone_by, gone_after}
 use Rattle.area_slots.proofs.Keeping.{on_ok, once_retired, room_retired, rises_retired, left_retired}
 use Rattle.area_slots.proofs.slots.AreaSlots.retire.Goals as goal
 
-taken : (c : goal.After-insert-fits) → IsTaken (record { free = c.self.inside.free.items; left = c.self.inside.left.items; count = c.self.inside.count }) c.args.slot.0
-taken c = subst (λ (set : SlotSet). IsTaken set c.args.slot.0) (sym c.self.view_is) c.requires
+taken : (c : goal.After-insert-fits) → IsSlotTaken (record { free = c.self.inside.free.items; left = c.self.inside.left.items; count = c.self.inside.count }) c.args.slot.0
+taken c = subst (λ (set : SlotSet). IsSlotTaken set c.args.slot.0) (sym c.self.view_is) c.requires
 
 items : (c : goal.After-insert-fits) → c.insert-fits.new.self.items ≡ insert c.self.inside.left.items c.place_of-place.result (record { slot = c.args.slot.0; tree = c.args.tree })
 items c = on_ok c.insert-fits.result _ (deque_capacity c.self.inside.left ≤ deque_len c.self.inside.left) c.insert-fits.ensures.items c.insert-fits.ensures.full
@@ -19,9 +19,9 @@ items c = on_ok c.insert-fits.result _ (deque_capacity c.self.inside.left ≤ de
     ))
 
 point : (c : goal.After-insert-fits) → (c.place_of-place.result ≤ length c.self.inside.left.items)
-    × IsPartitionPoint (λ leaving. left_by c.args.tree leaving ≡ true) (λ leaving. left_by c.args.tree leaving ≡ false) c.self.inside.left.items c.place_of-place.result
+    × IsPartitionPoint (λ leaving. retired_by c.args.tree leaving ≡ true) (λ leaving. retired_by c.args.tree leaving ≡ false) c.self.inside.left.items c.place_of-place.result
 point c = subst (λ (set : SlotSet). (c.place_of-place.result ≤ length set.left)
-    × IsPartitionPoint (λ leaving. left_by c.args.tree leaving ≡ true) (λ leaving. left_by c.args.tree leaving ≡ false) set.left c.place_of-place.result) (sym c.self.view_is)
+    × IsPartitionPoint (λ leaving. retired_by c.args.tree leaving ≡ true) (λ leaving. retired_by c.args.tree leaving ≡ false) set.left c.place_of-place.result) (sym c.self.view_is)
     (c.place_of-place.ensures.within, c.place_of-place.ensures.point)
 
 pub invariant_of-self : goal.invariant_of-self

@@ -2,7 +2,7 @@
 use Rattle.std.proofs.Common.{◌≡◌, ◌∷◌, ◌++◌, List, length, drop, sym, ap, subst, ◌∙◌, arith}
 use Rattle.std.specs.List.Sorted.{IsNonDecreasingBy}
 use Rattle.area_slots.specs.declared.leaving.Leaving.{Leaving}
-use Rattle.area_slots.specs.Slots.{SlotSet, slots_of, gone_by, gone_after}
+use Rattle.area_slots.specs.Slots.{SlotSet, slots_left, gone_by, gone_after}
 use Rattle.area_slots.proofs.Keeping.{Once, length-both, once_freed, rises_tail, none_gone, set_is}
 use Rattle.area_slots.proofs.slots.AreaSlots.seen.Goals as goal
 
@@ -36,5 +36,5 @@ returns c =
     let ends = none_gone c.args.tree c.loop-leaving.self.free c.loop-leaving.self.left c.args.self.now.free c.args.self.now.left
     (subst (λ (set : SlotSet). IsNonDecreasingBy (λ (leaving : Leaving). leaving.tree) set.left) c.self.view_is c.self.invariant.rises)
     c.in_default.ensures.none c.loop-leaving.invariant.becomes in
-    set_is c.loop-leaving.self (c.args.self.now.free ++ slots_of (gone_by c.args.tree c.args.self.now.left)) (gone_after c.args.tree c.args.self.now.left)
+    set_is c.loop-leaving.self (c.args.self.now.free ++ slots_left (gone_by c.args.tree c.args.self.now.left)) (gone_after c.args.tree c.args.self.now.left)
     c.args.self.now.count ends.0 ends.1 c.loop-leaving.invariant.count

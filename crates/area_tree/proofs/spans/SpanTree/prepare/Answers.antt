@@ -3,7 +3,7 @@ use Rattle.std.proofs.Common.{◌≡◌, ◌+◌, ◌*◌, ◌∙◌, true, fals
 use Rattle.area_tree.specs.declared.spans.SpanTree.TheInside.{Inside}
 use Rattle.grace_core.specs.declared.clearing.Clearing.{Clearing}
 use Rattle.node_slots.specs.declared.view.NodeView.{NodeView}
-use Rattle.node_slots.specs.Seats.{sight, pins_of}
+use Rattle.node_slots.specs.Seats.{node_sight, pins_of}
 use Rattle.area_tree.specs.SpanTrees.{SpanView}
 use Rattle.area_tree.specs.SpanKept.{IsSpanTree}
 use Rattle.area_tree.specs.Rows.{elapsed_of}
@@ -64,8 +64,8 @@ returns-clause-scans g c =
       elim c.if-self-eq0.branch [
         | then-self-eq0 w ↦
             let looks = ap (λ (v : NodeView). v.scans) w.store.ensures.same.seen in
-            omega (arith, tries.1, was, pins, looks, ap (λ (f : Inside). (sight f.writer).scans) w.self-inside-is)
-        | else-self-eq0 w ↦ omega (arith, tries.1, was, pins, ap (λ (f : Inside). (sight f.writer).scans) w.self-inside-is)
+            omega (arith, tries.1, was, pins, looks, ap (λ (f : Inside). (node_sight f.writer).scans) w.self-inside-is)
+        | else-self-eq0 w ↦ omega (arith, tries.1, was, pins, ap (λ (f : Inside). (node_sight f.writer).scans) w.self-inside-is)
       ],
     )
 
@@ -79,8 +79,8 @@ returns-clause-once g c = λ enough.
     elim c.if-self-eq0.branch [
       | then-self-eq0 w ↦
           let looks = ap (λ (v : NodeView). v.scans) w.store.ensures.same.seen in
-          omega (arith, once, was, pins, looks, ap (λ (f : Inside). (sight f.writer).scans) w.self-inside-is)
-      | else-self-eq0 w ↦ omega (arith, once, was, pins, ap (λ (f : Inside). (sight f.writer).scans) w.self-inside-is)
+          omega (arith, once, was, pins, looks, ap (λ (f : Inside). (node_sight f.writer).scans) w.self-inside-is)
+      | else-self-eq0 w ↦ omega (arith, once, was, pins, ap (λ (f : Inside). (node_sight f.writer).scans) w.self-inside-is)
     ]
 
 pub returns-clause-readers : goal.returns-clause-readers

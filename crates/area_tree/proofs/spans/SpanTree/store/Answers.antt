@@ -5,7 +5,7 @@ use Rattle.maple_node.specs.Pairs.{overwritten}
 use Rattle.node_slots.specs.Seats.{free_of}
 use Rattle.node_slots.specs.Built.{pairs_now}
 use Rattle.area_tree.specs.SpanTrees.{SpanView}
-use Rattle.area_tree.specs.SpanKept.{view_of}
+use Rattle.area_tree.specs.SpanKept.{span_view}
 use Rattle.area_tree.proofs.Counts.{room_left}
 use Rattle.area_tree.proofs.SpanStoring.{stored_kept, stored_view}
 use Rattle.area_tree.proofs.spans.SpanTree.store.Goals as goal
@@ -34,7 +34,7 @@ pub returns : goal.returns
 returns c =
     let fields = c.self.inside in
     let pairs = overwritten c.args.span.lo c.args.span.hi (slot_word c.args.slot) in
-    subst (λ (v : SpanView). view_of (record fields { writer = c.store.new.writer; tree = c.store.new.tree; changed = true })
+    subst (λ (v : SpanView). span_view (record fields { writer = c.store.new.writer; tree = c.store.new.tree; changed = true })
     ≡ record v { pairs = pairs v.pairs; changed = true; free = length (free_of c.store.new.writer) })
     c.self.view_is
     (stored_view fields c.store.new.writer c.store.new.tree (pairs (pairs_now fields.writer fields.tree)) c.store.ensures.same c.store.ensures.limit

@@ -1,7 +1,7 @@
 -- For `note`: a pass with one read more.
 use Rattle.std.proofs.Common.{arith, subst, sym, ◌≤◌, ◌+◌, length, All, ◌∙◌}
 use Rattle.area_rules.specs.Journals.{version_of, IsReadRight}
-use Rattle.fault_path.specs.Passes.{PassView, config, seen_by, made_by}
+use Rattle.fault_path.specs.Passes.{PassView, pass_config, seen_by, made_by}
 use Rattle.fault_path.proofs.Passes.{noted}
 use Rattle.fault_path.proofs.pass.Pass.note.Goals as goal
 
@@ -13,5 +13,5 @@ invariant_of-self c =
     rw (c.push_reserved.ensures.items, c.push_reserved.ensures.capacity)
     (noted _ _ c.args.read c.self.invariant
     (subst (λ (p : PassView). length (made_by p) + length p.log + p.left + 1 ≤ p.operations) spent (omega (arith, few, some)))
-    (subst (λ (p : PassView). IsReadRight (config p) (seen_by p) c.args.read) spent c.requires.right)
+    (subst (λ (p : PassView). IsReadRight (pass_config p) (seen_by p) c.args.read) spent c.requires.right)
     (subst (λ (p : PassView). All (λ earlier. version_of earlier ≤ version_of c.args.read) p.log) spent c.requires.rises))

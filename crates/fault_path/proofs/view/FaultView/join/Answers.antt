@@ -3,9 +3,9 @@ use Rattle.std.proofs.Common.{◌≡◌, ◌%◌, ◌∙◌, refl, sym, ap, subs
 use Rattle.mm_types.specs.declared.config.Config.{Config}
 use Rattle.area_rules.specs.Steps.{IsLegalJournal}
 use Rattle.vma_lock.specs.declared.view.View.{View}
-use Rattle.vma_lock.specs.Seats.{view, seen}
+use Rattle.vma_lock.specs.Seats.{lock_view, seen}
 use Rattle.node_slots.specs.declared.view.NodeView.{NodeView}
-use Rattle.fault_path.specs.Passes.{config}
+use Rattle.fault_path.specs.Passes.{pass_config}
 use Rattle.fault_path.proofs.Passes.{gone_on, joined_goes, sits_in}
 use Rattle.fault_path.proofs.view.FaultView.join.Goals as goal
 
@@ -23,10 +23,10 @@ invariant_of-into c =
     let joined = c.join.ensures in
     let pass = c.into.inside in
     let other = c.other.inside in
-    let same : (view other.reader).config ≡ (view pass.reader).config =
-    ap config c.other.view_is ∙ c.requires.1.config_is ∙ sym c.requires.0.config_is ∙ sym (ap config c.into.view_is) in
+    let same : (lock_view other.reader).config ≡ (lock_view pass.reader).config =
+    ap pass_config c.other.view_is ∙ c.requires.1.config_is ∙ sym c.requires.0.config_is ∙ sym (ap pass_config c.into.view_is) in
     gone_on _ _ _ c.into.invariant
-    (joined_goes (view pass.reader) (view other.reader) (view c.join.new.seat) joined.view joined.old joined.own
+    (joined_goes (lock_view pass.reader) (lock_view other.reader) (lock_view c.join.new.seat) joined.view joined.old joined.own
     (subst (λ (k : Config). IsLegalJournal k (seen other.reader)) same c.other.invariant.keeps.legal))
     (ap (λ (v : View). v.stage) joined.view ∙ c.into.invariant.free)
     (subst (λ (v : NodeView). v.pin % 2 ≡ 0) (sym c.join-2.ensures.view) c.into.invariant.keeps.closed) refl refl refl

@@ -1,7 +1,7 @@
 -- For `read_lock`: the area is locked, and what is kept of the pass.
 use Rattle.std.proofs.Common.{refl, sym, ap, subst, ◌∙◌, rules, ◌≡◌}
 use Rattle.mm_types.specs.Config.{IsValidConfig}
-use Rattle.fault_path.specs.Passes.{PassView, ViewedTable, config, walker, pass_of}
+use Rattle.fault_path.specs.Passes.{PassView, ViewedTable, pass_config, walker, pass_of}
 use Rattle.fault_path.specs.Holding.{HeldView, Locks}
 use Rattle.fault_path.proofs.Holding.{locks}
 use Rattle.fault_path.proofs.Passes.{keeps_on}
@@ -10,7 +10,7 @@ use Rattle.fault_path.proofs.view.FaultView.read_lock.Goals as goal
 pub invariant_of-result : goal.invariant_of-result
 invariant_of-result c =
     let lock = c.lock_page.ensures in
-    let config_is = lock.goes_on.config ∙ ap config c.pass.view_is ∙ c.requires.config_is ∙ sym (ap (λ (v : ViewedTable). v.config) c.self.view_is) in
+    let config_is = lock.goes_on.config ∙ ap pass_config c.pass.view_is ∙ c.requires.config_is ∙ sym (ap (λ (v : ViewedTable). v.config) c.self.view_is) in
     record {
       table_is = lock.tables.0;
       valid = subst IsValidConfig (sym config_is) c.self.invariant.valid;

@@ -2,7 +2,7 @@
 use Rattle.std.proofs.Common.{◌∙◌, refl, sym, slice_index_or, arith}
 use Rattle.std.proofs.lemmas.Bool.{false≢true}
 use Rattle.std.proofs.lemmas.Option.{slice_get-get_or}
-use Rattle.history.specs.Internal.Walks.{shown}
+use Rattle.history.specs.Internal.Walks.{answer_expected}
 use Rattle.history.proofs.Walking.{walked_room, counts_room, walked_more, refused_wrong}
 use Rattle.history.proofs.checking.Walk.judge.Goals as goal
 
@@ -35,7 +35,7 @@ returns-clause-ok c =
 pub returns-then-not-is_answered-clause-refused : goal.returns-then-not-is_answered-clause-refused
 returns-then-not-is_answered-clause-refused c =
     refused_wrong _ _ _ (slice_index_or c.args.case.now.items.now c.args.place c.index-case-place.result) c.next_line-line.result
-    (shown c.run_line-expected.new.space.space.areas c.run_line-expected.result) _ c.requires.walked
+    (answer_expected c.run_line-expected.new.space.space.areas c.run_line-expected.result) _ c.requires.walked
     (slice_get-get_or c.args.case.now.items.now c.args.place _ c.requires.within)
     (c.next_line-line.ensures _ _ c.requires.walked.progress) (c.if-not-can_stand.ensures.0 refl)
     c.run_line-expected.ensures.answer

@@ -2,14 +2,14 @@
 use Rattle.std.proofs.Common.{◌≡◌, ◌-◌, ℕ, List, Option, Some, None, drop, length, subst, take}
 use Rattle.std.proofs.lemmas.List.{take_rest}
 use Rattle.memchr.specs.Find.{IsFirstByte, is_byte}
-use Rattle.live_session.specs.Internal.Held.{HeldView, HasNoNewline}
+use Rattle.live_session.specs.Internal.Held.{HeldLineView, HasNoNewline}
 use Rattle.live_session.proofs.Newlines.{found_behind}
 use Rattle.live_session.proofs.held.Held.line_len.Goals as goal
 
 -- what was searched is a front of the bytes
-front : (held : HeldView) (bytes : List ℕ) (turns searched : ℕ) → record { bytes = bytes; searched = searched; turns = turns } ≡ held → HasNoNewline (take searched bytes)
+front : (held : HeldLineView) (bytes : List ℕ) (turns searched : ℕ) → record { bytes = bytes; searched = searched; turns = turns } ≡ held → HasNoNewline (take searched bytes)
     → HasNoNewline (take searched held.bytes)
-front held bytes turns searched is none = subst (λ (h : HeldView). HasNoNewline (take searched h.bytes)) is none
+front held bytes turns searched is none = subst (λ (h : HeldLineView). HasNoNewline (take searched h.bytes)) is none
 
 -- the search was that of the rest
 rest : (bytes all : List ℕ) (searched : ℕ) (found : Option ℕ) → all ≡ bytes → IsFirstByte (is_byte 10) (take (length all - searched) (drop searched all)) found

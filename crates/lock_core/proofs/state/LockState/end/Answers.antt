@@ -3,7 +3,7 @@ use Rattle.std.proofs.Common.{◌∙◌, ◌++◌, ◌∷◌, [], refl, sym, ap,
 use Rattle.std.specs.Option.{option_map}
 use Rattle.lock_core.specs.declared.events.StepRefusal.TheVariants.{NotTheList}
 use Rattle.mm_types.specs.Packed.{packed}
-use Rattle.lock_core.specs.Events.{entry_of}
+use Rattle.lock_core.specs.Events.{entry_after}
 use Rattle.lock_core.specs.Refusals.{first_difference}
 use Rattle.lock_core.proofs.Ending.{mapped_none, kept_ready, ended_space, ended_valid, ended_short, kept_end, refusal_end, difference_is, list_difference_is}
 use Rattle.lock_core.proofs.state.LockState.end.Goals as goal
@@ -15,7 +15,7 @@ pub list_refusal-requires : goal.list_refusal-requires
 list_refusal-requires c =
     let stepped = c.in_ok-stepped.stepped in
     let journal = c.self.inside.protocol.journal in
-    let entry = entry_of c.self.inside.config journal c.args.caller c.args.call in
+    let entry = entry_after c.self.inside.config journal c.args.caller c.args.call in
     let made = ended_space c.self.inside c.args.caller c.args.call stepped.list stepped.counters stepped.reply c.self.invariant c.in_ok-stepped.ensures in
     rw c.items.ensures
     (ended_valid c.self.inside.config (journal ++ entry ∷ []) stepped.list stepped.counters c.self.invariant.valid

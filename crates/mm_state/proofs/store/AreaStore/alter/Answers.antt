@@ -4,10 +4,10 @@ use Rattle.std.proofs.lemmas.Bool.{both_ways}
 use Rattle.std.proofs.lemmas.List.Sums.{sum_by-append}
 use Rattle.std.proofs.lemmas.List.Sorted.{IsPermutation-refl}
 use Rattle.area_slots.specs.Slots.{one_at}
-use Rattle.vma_lock.specs.Seats.{sight, slots}
+use Rattle.vma_lock.specs.Seats.{lock_sight, slots}
 use Rattle.area_tree.specs.declared.shown.ShownArea.{ShownArea}
 use Rattle.area_tree.specs.AreaTrees.{shown_of, areas_of}
-use Rattle.mm_state.specs.Internal.AreaStores.{IsSameTree, IsWritten}
+use Rattle.mm_state.specs.Internal.AreaStores.{HasSameAreaTree, IsWritten}
 use Rattle.mm_state.proofs.Splitting.{lost_meets, last_alone}
 use Rattle.mm_state.proofs.Changing.{same_span, same_meets, end_meets, room_meets, old_pages, old_within}
 use Rattle.mm_state.proofs.Hanging.{taken_in, at_most_once}
@@ -81,8 +81,8 @@ returns-then-eq g c =
       record {
         table = refl;
         mine = c.write_slot.ensures.table;
-        written = subst (λ row. IsWritten (sight store.writer) c.slot_of-slot.result.0 row (sight c.write_slot.new.writer)) c.pack-row.ensures c.write_slot.ensures.written;
-        same = subst (IsSameTree store.areas) (sym c.update.ensures.same) refl;
+        written = subst (λ row. IsWritten (lock_sight store.writer) c.slot_of-slot.result.0 row (lock_sight c.write_slot.new.writer)) c.pack-row.ensures c.write_slot.ensures.written;
+        same = subst (HasSameAreaTree store.areas) (sym c.update.ensures.same) refl;
         moved_room = refl;
       },
       record { rest = out.0; before = out.1; after = inl (out.2, refl, same_meets c.args.old.now c.args.new.now c.requires.new.some_pages (same_span c.args.old.now.span c.args.new.now.span c.eq.result c.if-eq.true c.eq.ensures)) },
@@ -99,8 +99,8 @@ returns-in-Some g c =
       record {
         table = refl;
         mine = c.write_slot.ensures.table;
-        written = subst (λ row. IsWritten (sight store.writer) c.slot_of-slot.result.0 row (sight c.write_slot.new.writer)) c.pack-row.ensures c.write_slot.ensures.written;
-        same = subst (IsSameTree store.areas) (sym c.split.ensures.same) refl;
+        written = subst (λ row. IsWritten (lock_sight store.writer) c.slot_of-slot.result.0 row (lock_sight c.write_slot.new.writer)) c.pack-row.ensures c.write_slot.ensures.written;
+        same = subst (HasSameAreaTree store.areas) (sym c.split.ensures.same) refl;
         moved_room = c.in-Some.ensures.room;
       },
       record {
@@ -126,8 +126,8 @@ returns-then-is_end g c =
       record {
         table = refl;
         mine = c.write_slot.ensures.table;
-        written = subst (λ row. IsWritten (sight store.writer) c.slot_of-slot.result.0 row (sight c.write_slot.new.writer)) c.pack-row.ensures c.write_slot.ensures.written;
-        same = subst (IsSameTree store.areas) (sym c.shrink.ensures.same) refl;
+        written = subst (λ row. IsWritten (lock_sight store.writer) c.slot_of-slot.result.0 row (lock_sight c.write_slot.new.writer)) c.pack-row.ensures c.write_slot.ensures.written;
+        same = subst (HasSameAreaTree store.areas) (sym c.shrink.ensures.same) refl;
         moved_room = c.in_default.ensures.room;
       },
       record { rest = out.0; before = out.1; after = inl (out.2, sym (c.in_default.ensures.items ∙ append-nil c.pop_moved_at.new.moved.items), end_meets c.args.old.now c.args.new.now (c.is_end.ensures.0 c.if-is_end.true)) },
@@ -143,8 +143,8 @@ returns-then-has_room g c =
       record {
         table = refl;
         mine = c.write_slot.ensures.table;
-        written = subst (λ row. IsWritten (sight store.writer) c.slot_of-slot.result.0 row (sight c.write_slot.new.writer)) c.pack-row.ensures c.write_slot.ensures.written;
-        same = subst (IsSameTree store.areas) (sym c.grow.ensures.same) refl;
+        written = subst (λ row. IsWritten (lock_sight store.writer) c.slot_of-slot.result.0 row (lock_sight c.write_slot.new.writer)) c.pack-row.ensures c.write_slot.ensures.written;
+        same = subst (HasSameAreaTree store.areas) (sym c.grow.ensures.same) refl;
         moved_room = refl;
       },
       record {
@@ -168,8 +168,8 @@ returns g c =
       record {
         table = refl;
         mine = c.write_slot.ensures.table;
-        written = subst (λ row. IsWritten (sight store.writer) c.slot_of-slot.result.0 row (sight c.write_slot.new.writer)) c.pack-row.ensures c.write_slot.ensures.written;
-        same = subst (IsSameTree store.areas) (sym c.remove.ensures.same) refl;
+        written = subst (λ row. IsWritten (lock_sight store.writer) c.slot_of-slot.result.0 row (lock_sight c.write_slot.new.writer)) c.pack-row.ensures c.write_slot.ensures.written;
+        same = subst (HasSameAreaTree store.areas) (sym c.remove.ensures.same) refl;
         moved_room = c.push_reserved.ensures.capacity;
       },
       record {

@@ -14,7 +14,7 @@ use Rattle.area_slots.specs.Slots.{SlotSet}
 use Rattle.vma_lock.specs.declared.view.View.{View}
 use Rattle.vma_lock.specs.declared.seats.WriterSeat.{WriterSeat}
 use Rattle.vma_lock.specs.Views.{begin_at, end_at}
-use Rattle.vma_lock.specs.Seats.{config_of, slots_of, sight, journal, slots}
+use Rattle.vma_lock.specs.Seats.{table_config, slots_of, lock_sight, journal, slots}
 use Rattle.area_tree.specs.AreaTrees.{AreaTreeView, shown_of, areas_of, AreasRise}
 use Rattle.mm_state.specs.declared.store.AreaStore.{AreaStore}
 use Rattle.mm_state.specs.Shelves.{Hangs}
@@ -37,7 +37,7 @@ change_all-requires-clause-can g c =
     let begun = c.begin.ensures.view in
     record {
       table = c.begin.ensures.table;
-      open_call = omega (arith, ap (λ (v : View). v.writer_state.seq) begun, ap (λ w. (sight w).writer_state.seq) ready.writer, c.requires.rest.closed);
+      open_call = omega (arith, ap (λ (v : View). v.writer_state.seq) begun, ap (λ w. (lock_sight w).writer_state.seq) ready.writer, c.requires.rest.closed);
       count = ready.slots.count ∙ c.requires.rest.count ∙ ap slots_of (sym ready.table);
       records = ready.slots.count ∙ c.requires.rest.records ∙ sym (ap (λ (t : AreaTreeView). slots_for t.tree.areas) ready.areas);
       hangs = subst (λ (states : List SlotState). Hangs states (shown_of c.make_ready.new.self.areas ++ c.make_ready.new.self.moved.items) c.make_ready.new.self.slots)
@@ -76,12 +76,12 @@ store_moved-requires g c =
     let changing = c.change_all.ensures in
     let store = c.change_all.new.self in
     let start = c.make_ready.new.self in
-    let limit : store.areas.tree.limit ≡ page_of (config_of c.args.self.now.table).limit =
+    let limit : store.areas.tree.limit ≡ page_of (table_config c.args.self.now.table).limit =
     ap (λ (t : AreaTreeView). t.tree.limit) changing.same ∙ ap (λ (t : AreaTreeView). t.tree.limit) ready.areas ∙ c.requires.rest.tree.limit in
-    let areas : store.areas.tree.areas ≡ (config_of c.args.self.now.table).areas =
+    let areas : store.areas.tree.areas ≡ (table_config c.args.self.now.table).areas =
     ap (λ (t : AreaTreeView). t.tree.areas) changing.same ∙ ap (λ (t : AreaTreeView). t.tree.areas) ready.areas ∙ c.requires.rest.tree.areas in
     let plan = subst (λ (t : AreaTreeView). IsPlanOf (areas_of t) c.args.changes.now) (sym ready.areas) c.requires.plan.plan in
-    let rise = subst (λ (t : AreaTreeView). AreasRise (page_of (config_of c.args.self.now.table).limit) 0 (applied c.args.changes.now (areas_of t))) (sym ready.areas)
+    let rise = subst (λ (t : AreaTreeView). AreasRise (page_of (table_config c.args.self.now.table).limit) 0 (applied c.args.changes.now (areas_of t))) (sym ready.areas)
     c.requires.plan.rise_after in
     let few = ap (λ (t : AreaTreeView). length (applied c.args.changes.now (areas_of t))) ready.areas in (
       ap (λ (t : AreaTreeView). t.tree.roomy) changing.same ∙ ap (λ (t : AreaTreeView). t.tree.roomy) ready.areas,
@@ -98,7 +98,7 @@ publish_areas-requires-clause-roomy g c =
 
 pub publish_areas-requires-clause-calls : goal.publish_areas-requires-clause-calls
 publish_areas-requires-clause-calls g c =
-    let begun = c.begin.ensures.view ∙ ap begin_at (ap sight c.make_ready.ensures.ready.writer) in
+    let begun = c.begin.ensures.view ∙ ap begin_at (ap lock_sight c.make_ready.ensures.ready.writer) in
     ap length (c.change_all.ensures.beside.seen ∙ ap (λ (v : View). v.seen) begun) ∙ sym c.requires.rest.tree.number
     ∙ sym (ap (λ (t : AreaTreeView). t.tree.number) c.store_moved.ensures.same ∙ ap (λ (t : AreaTreeView). t.tree.number) c.change_all.ensures.same
     ∙ ap (λ (t : AreaTreeView). t.tree.number) c.make_ready.ensures.ready.areas)
@@ -118,15 +118,15 @@ end-requires-clause-exact g c =
     let ready = c.make_ready.ensures.ready in
     let changing = c.change_all.ensures in
     let store = c.change_all.new.self in
-    let begun = c.begin.ensures.view ∙ ap begin_at (ap sight ready.writer) in
-    let config : (sight store.writer).config ≡ config_of c.args.self.now.table = changing.beside.config ∙ ap (λ (v : View). v.config) begun ∙ c.requires.rest.config in
+    let begun = c.begin.ensures.view ∙ ap begin_at (ap lock_sight ready.writer) in
+    let config : (lock_sight store.writer).config ≡ table_config c.args.self.now.table = changing.beside.config ∙ ap (λ (v : View). v.config) begun ∙ c.requires.rest.config in
     let seen : journal store.writer ≡ journal c.args.self.now.writer = changing.beside.seen ∙ ap (λ (v : View). v.seen) begun in
     let plan = subst (λ (t : AreaTreeView). IsPlanOf (areas_of t) c.args.changes.now) (sym ready.areas) c.requires.plan.plan in
-    let list : applied c.args.changes.now (areas_of c.make_ready.new.self.areas) ≡ list_after (sight store.writer).config (journal store.writer ++ c.args.entry ∷ []) =
+    let list : applied c.args.changes.now (areas_of c.make_ready.new.self.areas) ≡ list_after (lock_sight store.writer).config (journal store.writer ++ c.args.entry ∷ []) =
     ap (λ (t : AreaTreeView). applied c.args.changes.now (areas_of t)) ready.areas ∙ c.requires.plan.result
     ∙ sym (ap (λ (k : Config). list_after k (journal c.args.self.now.writer ++ c.args.entry ∷ [])) config)
-    ∙ sym (ap (λ (j : List Entry). list_after (sight store.writer).config (j ++ c.args.entry ∷ [])) seen) in
-    subst (λ (w : WriterSeat). Exactly (slots w) (list_after (sight w).config (journal w ++ c.args.entry ∷ []))) (sym (ap (λ (b : AreaStore). b.writer) c.publish_areas.ensures.same))
+    ∙ sym (ap (λ (j : List Entry). list_after (lock_sight store.writer).config (j ++ c.args.entry ∷ [])) seen) in
+    subst (λ (w : WriterSeat). Exactly (slots w) (list_after (lock_sight w).config (journal w ++ c.args.entry ∷ []))) (sym (ap (λ (b : AreaStore). b.writer) c.publish_areas.ensures.same))
     (λ weight. rows_then _ store c.args.changes.now _ changing plan weight ∙ ap (sum_by (λ (area : Record). weight (packed area))) list)
 
 -- what holds from an opened call on holds from before it
@@ -146,15 +146,15 @@ returns-clause-done g c =
     let same = c.publish_areas.ensures.same in
     let shown = c.publish_areas.ensures.areas in
     let tree = tree_step start.areas store.areas after changing.same c.store_moved.ensures.same in
-    let limit : after.tree.limit ≡ page_of (config_of before.table).limit =
+    let limit : after.tree.limit ≡ page_of (table_config before.table).limit =
     ap (λ (t : AreaTreeView). t.tree.limit) tree ∙ ap (λ (t : AreaTreeView). t.tree.limit) ready.areas ∙ c.requires.rest.tree.limit in
     let plan = subst (λ (t : AreaTreeView). IsPlanOf (areas_of t) c.args.changes.now) (sym ready.areas) c.requires.plan.plan in
-    let rise = subst (λ (t : AreaTreeView). AreasRise (page_of (config_of before.table).limit) 0 (applied c.args.changes.now (areas_of t))) (sym ready.areas)
+    let rise = subst (λ (t : AreaTreeView). AreasRise (page_of (table_config before.table).limit) 0 (applied c.args.changes.now (areas_of t))) (sym ready.areas)
     c.requires.plan.rise_after in
-    let begun = c.begin.ensures.view ∙ ap begin_at (ap sight ready.writer) in
+    let begun = c.begin.ensures.view ∙ ap begin_at (ap lock_sight ready.writer) in
     let were : slots opened ≡ slots before.writer = ap (λ (v : View). v.writer_state.slots) begun in
-    let met : sight ended ≡ end_at (sight store.writer) c.args.entry =
-    c.end.ensures.view ∙ ap (λ (w : WriterSeat). end_at (sight w) c.args.entry) (ap (λ (b : AreaStore). b.writer) same) in
+    let met : lock_sight ended ≡ end_at (lock_sight store.writer) c.args.entry =
+    c.end.ensures.view ∙ ap (λ (w : WriterSeat). end_at (lock_sight w) c.args.entry) (ap (λ (b : AreaStore). b.writer) same) in
     let are : slots ended ≡ slots store.writer = ap (λ (v : View). v.writer_state.slots) met in
     let set : c.publish_areas.new.self.slots ≡ store.slots = ap (λ (b : AreaStore). b.slots) same in
     let number : c.publish_areas.new.self.areas.tree.number ≡ c.version-tree.result + 1 =
@@ -200,15 +200,15 @@ returns-clause-rest g c =
     let writer : published.writer ≡ store.writer = ap (λ (b : AreaStore). b.writer) same in
     let set : published.slots ≡ store.slots = ap (λ (b : AreaStore). b.slots) same in
     let moved : published.moved ≡ c.store_moved.new.moved = ap (λ (b : AreaStore). b.moved) same in
-    let met : sight c.end.new.writer ≡ end_at (sight store.writer) c.args.entry =
-    c.end.ensures.view ∙ ap (λ (w : WriterSeat). end_at (sight w) c.args.entry) writer in
-    let begun = c.begin.ensures.view ∙ ap begin_at (ap sight ready.writer) in
+    let met : lock_sight c.end.new.writer ≡ end_at (lock_sight store.writer) c.args.entry =
+    c.end.ensures.view ∙ ap (λ (w : WriterSeat). end_at (lock_sight w) c.args.entry) writer in
+    let begun = c.begin.ensures.view ∙ ap begin_at (ap lock_sight ready.writer) in
     let stored = c.store_moved.ensures in
     let shown = c.publish_areas.ensures.areas in
     let tree = tree_step c.make_ready.new.self.areas store.areas c.store_moved.new.areas changing.same stored.same in
-    let limit : published.areas.tree.limit ≡ page_of (config_of c.args.self.now.table).limit =
+    let limit : published.areas.tree.limit ≡ page_of (table_config c.args.self.now.table).limit =
     ap (λ (t : AreaTreeView). t.tree.limit) shown ∙ ap (λ (t : AreaTreeView). t.tree.limit) tree ∙ ap (λ (t : AreaTreeView). t.tree.limit) ready.areas ∙ c.requires.rest.tree.limit in
-    let areas : published.areas.tree.areas ≡ (config_of c.args.self.now.table).areas =
+    let areas : published.areas.tree.areas ≡ (table_config c.args.self.now.table).areas =
     ap (λ (t : AreaTreeView). t.tree.areas) shown ∙ ap (λ (t : AreaTreeView). t.tree.areas) tree ∙ ap (λ (t : AreaTreeView). t.tree.areas) ready.areas ∙ c.requires.rest.tree.areas in
     let number : published.areas.tree.number ≡ length (journal c.args.self.now.writer) + 1 =
     ap (λ (t : AreaTreeView). t.tree.number) shown ∙ ap (λ (t : AreaTreeView). t.tree.number + 1) tree ∙ ap (λ (t : AreaTreeView). t.tree.number + 1) ready.areas
@@ -217,7 +217,7 @@ returns-clause-rest g c =
     ap (λ (v : View). v.seen) met ∙ ap (λ j. j ++ c.args.entry ∷ []) (changing.beside.seen ∙ ap (λ (v : View). v.seen) begun) in
     record {
       table = c.end.ensures.table;
-      config = ap (λ (v : View). v.config) met ∙ changing.beside.config ∙ ap (λ (v : View). v.config) begun ∙ c.requires.rest.config ∙ ap config_of (sym table);
+      config = ap (λ (v : View). v.config) met ∙ changing.beside.config ∙ ap (λ (v : View). v.config) begun ∙ c.requires.rest.config ∙ ap table_config (sym table);
       closed = omega (arith, ap (λ (v : View). v.writer_state.seq) met, changing.beside.seq, ap (λ (v : View). v.writer_state.seq) begun, c.requires.rest.closed);
       count = ap (λ (s : SlotSet). s.count) set ∙ changing.count ∙ ready.slots.count ∙ c.requires.rest.count ∙ ap slots_of (sym table);
       records = omega (arith, ap (λ (s : SlotSet). s.count) set, changing.count, ready.slots.count, c.requires.rest.records, c.requires.rest.tree.areas, areas);
@@ -229,12 +229,12 @@ returns-clause-rest g c =
         shown = ap (λ (t : AreaTreeView). t.tree.shown) shown ∙ sym (ap (λ (t : AreaTreeView). t.tree.pairs) shown);
         still = ap (λ (t : AreaTreeView). t.tree.changed) shown;
         number = number ∙ sym (ap length seen ∙ length-append (journal c.args.self.now.writer) (c.args.entry ∷ []));
-        areas = areas ∙ ap (λ t. (config_of t).areas) (sym table);
-        limit = limit ∙ ap (λ t. page_of (config_of t).limit) (sym table);
+        areas = areas ∙ ap (λ t. (table_config t).areas) (sym table);
+        limit = limit ∙ ap (λ t. page_of (table_config t).limit) (sym table);
         leaving = subst (λ (s : SlotSet). All (λ leaving. leaving.tree ≤ published.areas.tree.number) s.left) (sym set)
             (subst (λ n. All (λ leaving. leaving.tree ≤ n) store.slots.left)
             (ap (λ n. n + 1) (c.version-tree.ensures ∙ ap (λ (v : View). length v.seen) begun) ∙ sym number) changing.leaving);
         moved = ap (λ m. m.items) moved ∙ stored.none;
-        spare = omega (arith, ap (λ t. (config_of t).areas) table, ap vec_capacity moved, stored.room, changing.moved_room, ap vec_capacity ready.moved, c.requires.rest.tree.spare);
+        spare = omega (arith, ap (λ t. (table_config t).areas) table, ap vec_capacity moved, stored.room, changing.moved_room, ap vec_capacity ready.moved, c.requires.rest.tree.spare);
       };
     }

@@ -4,7 +4,7 @@ use Rattle.split_merge.specs.declared.plan.Change.TheVariants.{Detach}
 use Rattle.vma_lock.specs.Seats.{slots}
 use Rattle.area_tree.specs.AreaTrees.{shown_of}
 use Rattle.mm_state.specs.declared.store.AreaStore.{AreaStore}
-use Rattle.mm_state.specs.Internal.AreaStores.{Carries, IsSameTree}
+use Rattle.mm_state.specs.Internal.AreaStores.{Carries, HasSameAreaTree}
 use Rattle.mm_state.proofs.Hanging.{taken_in}
 use Rattle.mm_state.proofs.LettingGo.{carries}
 use Rattle.mm_state.proofs.store.AreaStore.detach.Goals as goal
@@ -29,4 +29,4 @@ returns g c =
     subst (λ (b : AreaStore). Carries c.args.self.now b (Detach c.args.old.now) c.args.tree) (ap (λ (b : AreaStore). record store { areas = b.areas }) (sym c.let_go.ensures.same))
     (carries (record c.args.self.now { areas = c.remove.new.self }) store c.args.self.now.areas c.remove.new.self (record { slot = c.slot_of-slot.result.0; area = c.args.old.now }) c.args.tree
     c.let_go.ensures
-    (subst (IsSameTree c.args.self.now.areas) (sym c.remove.ensures.same) refl) (c.remove.ensures.shown c.slot_of-slot.result.0 c.slot_of-slot.ensures))
+    (subst (HasSameAreaTree c.args.self.now.areas) (sym c.remove.ensures.same) refl) (c.remove.ensures.shown c.slot_of-slot.result.0 c.slot_of-slot.ensures))

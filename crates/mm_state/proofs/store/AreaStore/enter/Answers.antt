@@ -3,7 +3,7 @@ use Rattle.std.proofs.Common.{◌≡◌, ℕ, Option, Some, None, nat_eq, eq-eqb
 use Rattle.std.proofs.lemmas.Bool.{cond-true}
 use Rattle.mm_types.specs.declared.call.Entry.{Entry}
 use Rattle.vma_lock.specs.declared.view.View.{View}
-use Rattle.vma_lock.specs.Seats.{sight, view, is_turn_of}
+use Rattle.vma_lock.specs.Seats.{lock_sight, lock_view, is_turn_of}
 use Rattle.mm_state.proofs.Resting.{IsLike, at_rest_like, entered_like, carried_like}
 use Rattle.mm_state.proofs.store.AreaStore.enter.Goals as goal
 
@@ -30,7 +30,7 @@ given_back caller turn is = rw is (cond-true (nat_eq caller caller) None (Some c
 
 pub returns-clause-turn : goal.returns-clause-turn
 returns-clause-turn g c = ap (λ (v : View). v.turn) c.meet.ensures.writer
-    ∙ given_back (view c.lend.new.seat).caller (sight c.carry_out.new.self.writer).turn
+    ∙ given_back (lock_view c.lend.new.seat).caller (lock_sight c.carry_out.new.self.writer).turn
     (c.carry_out.ensures.turn ∙ ap (λ (v : View). v.turn) c.lend.ensures.writer ∙ c.requires.turn.0 ∙ ap Some (sym (ap (λ (v : View). v.caller) c.lend.ensures.seat)))
 
 pub returns-clause-done : goal.returns-clause-done

@@ -8,7 +8,7 @@ use Rattle.area_list.specs.Areas.{page_of}
 use Rattle.area_slots.specs.declared.leaving.Leaving.{Leaving}
 use Rattle.area_slots.specs.Slots.{SlotSet}
 use Rattle.vma_lock.specs.declared.view.View.{View}
-use Rattle.vma_lock.specs.Seats.{config_of, sight}
+use Rattle.vma_lock.specs.Seats.{table_config, lock_sight}
 use Rattle.area_tree.specs.declared.shown.ShownArea.{ShownArea}
 use Rattle.area_tree.specs.AreaTrees.{AreaTreeView, shown_of}
 use Rattle.mm_state.specs.Shelves.{Hangs}
@@ -20,7 +20,7 @@ returns-clause-rest c =
     let table = c.in_ok-table.ensures in
     let opened = c.requires.fresh.1 in
     let config = table.1 ∙ ap (λ (v : View). v.config) opened in
-    let areas : (config_of c.in_ok-table.table).areas ≡ c.args.config.now.areas = ap (λ config. config.areas) config in
+    let areas : (table_config c.in_ok-table.table).areas ≡ c.args.config.now.areas = ap (λ config. config.areas) config in
     let tree = c.in_ok-new.ensures in
     let set : ℕ → SlotSet = λ n. record { free = reverse (range_with_len 0 n); left = []; count = n } in
     let first = set (slots_for c.args.config.now.areas) in
@@ -33,8 +33,8 @@ returns-clause-rest c =
       closed = ap (λ (v : View). v.writer_state.seq % 2) opened;
       count = ap (λ (s : SlotSet). s.count) made ∙ ap (λ n. 2 * n + 2) (sym areas);
       records = ap (λ (s : SlotSet). s.count) made ∙ ap (λ (t : AreaTreeView). slots_for t.tree.areas) (sym tree);
-      hangs = subst (λ (s : SlotSet). Hangs (sight c.args.writer).writer_state.slots (shown_of c.in_ok-new.field-0) s) (sym made)
-          (subst (λ (shown : List ShownArea). Hangs (sight c.args.writer).writer_state.slots shown first) (sym (ap shown_of tree))
+      hangs = subst (λ (s : SlotSet). Hangs (lock_sight c.args.writer).writer_state.slots (shown_of c.in_ok-new.field-0) s) (sym made)
+          (subst (λ (shown : List ShownArea). Hangs (lock_sight c.args.writer).writer_state.slots shown first) (sym (ap shown_of tree))
           (subst (λ (s : List SlotState). Hangs s [] first) (sym states) hangs));
       tree = record {
         shown = ap (λ (t : AreaTreeView). t.tree.shown) tree ∙ sym (ap (λ (t : AreaTreeView). t.tree.pairs) tree);

@@ -4,7 +4,7 @@ use Rattle.node_slots.specs.declared.view.ShownTree.{ShownTree}
 use Rattle.node_slots.specs.Trees.{shown_rows}
 use Rattle.node_slots.specs.Plays.{RowsExist}
 use Rattle.node_slots.specs.Views.{named_tree}
-use Rattle.node_slots.specs.Seats.{sight, writer_state, next_shown, ReachesNewRows}
+use Rattle.node_slots.specs.Seats.{node_sight, writer_state, next_shown, ReachesNewRows}
 use Rattle.node_slots.specs.Kept.{firsts_of}
 use Rattle.node_slots.proofs.Listing.{publish_lists}
 use Rattle.node_slots.proofs.Writers.{new_not_gone, new_all, new_exist, root_within}
@@ -16,14 +16,14 @@ publish_root-requires-clause-fits c =
     record {
       tree = omega (arith, c.requires.number, writer.writer_state.kept.number_is);
       height = omega (arith, c.requires.height);
-      row = root_within writer (next_shown writer c.args.root.0 c.args.height) (sight writer).size.slots c.requires.rows c.requires.layout;
+      row = root_within writer (next_shown writer c.args.root.0 c.args.height) (node_sight writer).size.slots c.requires.rows c.requires.layout;
     }
 
 pub publish_root-requires-clause-exist : goal.publish_root-requires-clause-exist
 publish_root-requires-clause-exist c =
     let writer = c.args.writer.now in
-    subst (λ n. RowsExist (sight writer).size.rows
-    (named_tree (sight writer).known (record { tree = n + 1; height = c.args.height; row = c.args.root })))
+    subst (λ n. RowsExist (node_sight writer).size.rows
+    (named_tree (node_sight writer).known (record { tree = n + 1; height = c.args.height; row = c.args.root })))
     writer.writer_state.kept.number_is (new_exist writer (next_shown writer c.args.root.0 c.args.height) c.requires.rows)
 
 pub invariant_of-writer : goal.invariant_of-writer
@@ -31,9 +31,9 @@ invariant_of-writer c =
     let writer = c.args.writer.now in
     let number = writer.writer_state.kept.number_is in
     let size = ap (λ t. t.size.rows) c.publish_root.ensures.same in
-    let shown : ShownTree = named_tree (sight writer).known (record { tree = writer.writer_state.root.tree + 1; height = c.args.height; row = c.args.root }) in
+    let shown : ShownTree = named_tree (node_sight writer).known (record { tree = writer.writer_state.root.tree + 1; height = c.args.height; row = c.args.root }) in
     let reaches : ReachesNewRows writer shown =
-    subst (λ n. ReachesNewRows writer (named_tree (sight writer).known (record { tree = n + 1; height = c.args.height; row = c.args.root }))) number
+    subst (λ n. ReachesNewRows writer (named_tree (node_sight writer).known (record { tree = n + 1; height = c.args.height; row = c.args.root }))) number
     c.requires.rows in
     record {
       rows = rw c.publish_root.ensures.same (rw c.publish_root.ensures.view

@@ -3,10 +3,10 @@ use Rattle.std.proofs.Common.{◌≡◌, ◌<◌, ◌∙◌, List, length, map, 
 use Rattle.std.proofs.lemmas.Bool.{cases_Bool}
 use Rattle.grace_core.specs.declared.clearing.Clearing.{Clearing}
 use Rattle.grace_core.specs.Core.{since_at}
-use Rattle.grace_core.specs.Steps.{least}
+use Rattle.grace_core.specs.Steps.{cleared_up_to}
 use Rattle.grace_core.proofs.Clearings.{least_number}
 use Rattle.node_slots.specs.declared.seats.NodeWriterSeat.{NodeWriterSeat}
-use Rattle.node_slots.specs.Seats.{seat_sight, sight, writer_state}
+use Rattle.node_slots.specs.Seats.{seat_sight, node_sight, writer_state}
 use Rattle.node_slots.specs.Seats.{is_waiting, AreOut}
 use Rattle.node_slots.specs.Kept.{firsts_of}
 use Rattle.node_slots.proofs.Gone.{scanned_least}
@@ -20,7 +20,7 @@ invariant_of-writer c =
     let size = ap (λ t. t.size.rows) c.scan_pins.ensures.same in
     record {
       rows = rw c.scan_pins.ensures.same (rw told.2
-          (scans_lists writer.writer_state.table.size.rows 0 told.0 writer.free.items writer.left.items (firsts_of writer.notes.items) (sight writer) writer.rows));
+          (scans_lists writer.writer_state.table.size.rows 0 told.0 writer.free.items writer.left.items (firsts_of writer.notes.items) (node_sight writer) writer.rows));
       places = rw size writer.places;
       untouched = omega (arith, writer.untouched, size, c.scan_pins.ensures.words);
       free_room = omega (arith, writer.free_room, size);
@@ -30,8 +30,8 @@ invariant_of-writer c =
 pub free_passed-requires : goal.free_passed-requires
 free_passed-requires c =
     let seat = c.scan_pins.new.seat in
-    let is : c.least-passed.result ≡ least seat.root.tree seat.clearings.items = c.least-passed.ensures
-    ∙ ap (least seat.root.tree) c.as_slice.ensures.value in
+    let is : c.least-passed.result ≡ cleared_up_to seat.root.tree seat.clearings.items = c.least-passed.ensures
+    ∙ ap (cleared_up_to seat.root.tree) c.as_slice.ensures.value in
     let most = least_number seat.root.tree seat.clearings.items in
     let reached = seat.kept.reached in
     record { passed = (omega (arith, is, reached), omega (arith, is, most, seat.kept.number_is)) }
@@ -45,13 +45,13 @@ pub returns-clause-rest : goal.returns-clause-rest
 returns-clause-rest c =
     let seat = c.scan_pins.new.seat in
     let writer = c.free_passed.new.self in
-    let is : c.least-passed.result ≡ least seat.root.tree seat.clearings.items = c.least-passed.ensures
-    ∙ ap (least seat.root.tree) c.as_slice.ensures.value in
-    let same : least seat.root.tree seat.clearings.items ≡ least writer.writer_state.root.tree writer.writer_state.clearings.items =
-    ap (λ (s : NodeWriterSeat). least s.root.tree s.clearings.items) (sym c.free_passed.ensures.writer_state) in
-    let known : least writer.writer_state.root.tree writer.writer_state.clearings.items ≡ least (writer_state writer).tree.number (writer_state writer).clearings =
-    ap (λ n. least n writer.writer_state.clearings.items) (sym writer.writer_state.kept.number_is)
-    ∙ ap (least (writer_state writer).tree.number) (sym writer.writer_state.kept.clearings_are) in
+    let is : c.least-passed.result ≡ cleared_up_to seat.root.tree seat.clearings.items = c.least-passed.ensures
+    ∙ ap (cleared_up_to seat.root.tree) c.as_slice.ensures.value in
+    let same : cleared_up_to seat.root.tree seat.clearings.items ≡ cleared_up_to writer.writer_state.root.tree writer.writer_state.clearings.items =
+    ap (λ (s : NodeWriterSeat). cleared_up_to s.root.tree s.clearings.items) (sym c.free_passed.ensures.writer_state) in
+    let known : cleared_up_to writer.writer_state.root.tree writer.writer_state.clearings.items ≡ cleared_up_to (writer_state writer).tree.number (writer_state writer).clearings =
+    ap (λ n. cleared_up_to n writer.writer_state.clearings.items) (sym writer.writer_state.kept.number_is)
+    ∙ ap (cleared_up_to (writer_state writer).tree.number) (sym writer.writer_state.kept.clearings_are) in
     λ row waits. subst (λ n. n < since_at (writer_state writer).since row) (is ∙ same ∙ known) (c.free_passed.ensures.rest row waits)
 
 pub returns-clause-gone : goal.returns-clause-gone
@@ -61,18 +61,18 @@ returns-clause-gone c =
     let writer = c.free_passed.new.self in
     let told = c.scan_pins.ensures.view in
     let size = ap (λ t. t.size.readers) c.scan_pins.ensures.same in
-    let is : c.least-passed.result ≡ least seat.root.tree seat.clearings.items = c.least-passed.ensures
-    ∙ ap (least seat.root.tree) c.as_slice.ensures.value in
-    let known : least (seat_sight seat).known.writer_state.tree.number (seat_sight seat).known.writer_state.clearings ≡ least seat.root.tree seat.clearings.items =
-    ap (λ n. least n (seat_sight seat).known.writer_state.clearings) seat.kept.number_is
-    ∙ ap (least seat.root.tree) seat.kept.clearings_are in
+    let is : c.least-passed.result ≡ cleared_up_to seat.root.tree seat.clearings.items = c.least-passed.ensures
+    ∙ ap (cleared_up_to seat.root.tree) c.as_slice.ensures.value in
+    let known : cleared_up_to (seat_sight seat).known.writer_state.tree.number (seat_sight seat).known.writer_state.clearings ≡ cleared_up_to seat.root.tree seat.clearings.items =
+    ap (λ n. cleared_up_to n (seat_sight seat).known.writer_state.clearings) seat.kept.number_is
+    ∙ ap (cleared_up_to seat.root.tree) seat.kept.clearings_are in
     let same = ap (λ s. s.readers) c.requires.table.size_is in
     let was = ap (λ (l : List Clearing). length l) old.writer_state.kept.clearings_are in
     let after = ap (λ (l : List Clearing). length l) seat.kept.clearings_are in
     let number = ap (λ (s : NodeWriterSeat). (seat_sight s).known.writer_state.tree.number) c.free_passed.ensures.writer_state in
     λ out row. elim (cases_Bool (is_waiting writer row)) [
       | inl waits ↦
-          let all = scanned_least told.0 (sight old) (seat_sight seat) told.2 (omega (arith, told.1, was, old.writer_state.kept.readers, same))
+          let all = scanned_least told.0 (node_sight old) (seat_sight seat) told.2 (omega (arith, told.1, was, old.writer_state.kept.readers, same))
           (omega (arith, told.1, after, seat.kept.readers, size, old.writer_state.kept.readers, same))
           (subst (λ (s : NodeWriterSeat). AreOut (map (λ (found : Clearing). found.pin) (seat_sight s).known.writer_state.clearings)) c.free_passed.ensures.writer_state out) in
           let later = c.free_passed.ensures.rest row waits in

@@ -1,6 +1,6 @@
 -- For `fill`: the row is free by the grace protocol, and the lists keep what they keep.
 use Rattle.std.proofs.Common.{ℕ, ◌∙◌, sym, ap, arith}
-use Rattle.node_slots.specs.Seats.{table_of, sight, writer_state, free_of}
+use Rattle.node_slots.specs.Seats.{node_table_id, node_sight, writer_state, free_of}
 use Rattle.node_slots.specs.Kept.{firsts_of, spots_of}
 use Rattle.node_slots.proofs.Listing.{taken_free, fill_lists}
 use Rattle.node_slots.proofs.Spots.{below_fresh}
@@ -27,7 +27,7 @@ invariant_of-self c =
     (omega (arith, taken.1)) taken.0 in
     record {
       rows = rw c.fill_row.ensures.same (rw c.fill_row.ensures.view
-          (fill_lists writer.writer_state.table.size.rows c.args.row.0 c.args.words.now writer.free.items writer.left.items (firsts_of writer.notes.items) (sight writer)
+          (fill_lists writer.writer_state.table.size.rows c.args.row.0 c.args.words.now writer.free.items writer.left.items (firsts_of writer.notes.items) (node_sight writer)
           writer.rows));
       places = rw size writer.places;
       untouched = omega (arith, writer.untouched, size, c.fill_row.ensures.touched, below);
@@ -37,6 +37,6 @@ invariant_of-self c =
 
 pub returns-clause-table : goal.returns-clause-table
 returns-clause-table c = λ nodes writes. record {
-  same = c.fill_row.new.self.table_is ∙ ap table_of c.fill_row.ensures.same ∙ sym c.args.self.now.writer_state.table_is ∙ writes.same;
+  same = c.fill_row.new.self.table_is ∙ ap node_table_id c.fill_row.ensures.same ∙ sym c.args.self.now.writer_state.table_is ∙ writes.same;
   size_is = ap (λ t. t.size) c.fill_row.ensures.same ∙ writes.size_is;
 }

@@ -2,7 +2,7 @@
 use Rattle.std.proofs.Common.{ℕ, ◌≡◌, ◌+◌, ◌∙◌, List, [], ◌∷◌, ◌++◌, length, refl, sym, ap, arith}
 use Rattle.std.proofs.lemmas.List.{append_assoc, append-nil, length_push, length-append, length-map}
 use Rattle.node_slots.specs.declared.left.Left.{Left}
-use Rattle.node_slots.specs.Seats.{writer_state, free_of, left_of}
+use Rattle.node_slots.specs.Seats.{writer_state, free_of, retired_rows}
 use Rattle.node_slots.specs.Kept.{firsts_of}
 use Rattle.node_slots.proofs.Listing.{waiting_after, gone_few}
 use Rattle.node_slots.proofs.seats.NodeWriter.free_passed.Goals as goal
@@ -30,7 +30,7 @@ loop-count-preserved c =
         rows ++ one.0 ∷ [],
         omega (arith, length_push rows one.0, before.1),
         one.1 ∙ ap (λ (l : List ℕ). l ++ one.0 ∷ []) before.2 ∙ append_assoc (free_of c.args.self.now) rows (one.0 ∷ []),
-        before.3 ∙ ap (λ (l : List ℕ). rows ++ l) one.2 ∙ sym (append_assoc rows (one.0 ∷ []) (left_of c.free_first.new.self)),
+        before.3 ∙ ap (λ (l : List ℕ). rows ++ l) one.2 ∙ sym (append_assoc rows (one.0 ∷ []) (retired_rows c.free_first.new.self)),
       );
     }
 
@@ -52,8 +52,8 @@ pub returns-clause-rest : goal.returns-clause-rest
 returns-clause-rest c =
     let writer = c.loop-count.self in
     let before = c.loop-count.invariant.freed in
-    let all : length (left_of c.args.self.now) ≡ length before.0 + length (left_of writer) = ap (λ (l : List ℕ). length l) before.3
-    ∙ length-append before.0 (left_of writer) in
+    let all : length (retired_rows c.args.self.now) ≡ length before.0 + length (retired_rows writer) = ap (λ (l : List ℕ). length l) before.3
+    ∙ length-append before.0 (retired_rows writer) in
     let old = length-map c.args.self.now.left.items (λ (l : Left). l.row.0) in
     let now = length-map writer.left.items (λ (l : Left). l.row.0) in
     waiting_after writer.writer_state.table.size.rows c.args.passed writer.free.items writer.left.items (firsts_of writer.notes.items) (writer_state writer) writer.rows

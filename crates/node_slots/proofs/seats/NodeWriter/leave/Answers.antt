@@ -6,7 +6,7 @@ use Rattle.mm_types.specs.declared.slot.Row.{Row}
 use Rattle.grace_core.proofs.Moves.{free_parts}
 use Rattle.node_slots.specs.declared.left.Left.{Left}
 use Rattle.node_slots.specs.Kept.{free_numbers, left_numbers, firsts_of}
-use Rattle.node_slots.specs.Seats.{writer_state, is_present, free_of, left_of}
+use Rattle.node_slots.specs.Seats.{writer_state, is_present, free_of, retired_rows}
 use Rattle.node_slots.proofs.Listing.{gone_few, gone_fewer, free_lists, left_lists}
 use Rattle.node_slots.proofs.Writers.{writer_kept, writer_first, pushed_places}
 use Rattle.node_slots.proofs.seats.NodeWriter.leave.Goals as goal
@@ -82,7 +82,7 @@ returns-then-index-next-clause-left c =
     let present = writer.rows.present row kept.0 kept.1 (omega (arith, first, c.if-index-next.true, number)) in
     let one : Left = record { row = c.args.row; since = writer.writer_state.root.tree + 1 } in
     ap left_numbers c.push_back_reserved.ensures.items ∙ map-append (λ (l : Left). l.row.0) writer.left.items (one ∷ [])
-    ∙ sym (cond-true (is_present writer row) (left_of writer ++ row ∷ []) (left_of writer) present)
+    ∙ sym (cond-true (is_present writer row) (retired_rows writer ++ row ∷ []) (retired_rows writer) present)
 
 pub returns-then-index-next-clause-free : goal.returns-then-index-next-clause-free
 returns-then-index-next-clause-free c =
@@ -113,4 +113,4 @@ returns-else-index-next-clause-left c =
     let first = writer_first writer row c.index.result.now c.requires.kept c.index.ensures in
     let number = writer.writer_state.kept.number_is in
     let out = (free_parts (writer_state writer) row (writer.rows.taken row kept.0 kept.1 (omega (arith, first, c.if-index-next.false, number)))).0 in
-    sym (cond-false (is_present writer row) (left_of writer ++ row ∷ []) (left_of writer) out)
+    sym (cond-false (is_present writer row) (retired_rows writer ++ row ∷ []) (retired_rows writer) out)

@@ -3,8 +3,8 @@ use Rattle.std.proofs.Common.{ℕ, ◌≡◌, ◌++◌, List, [], refl, sym, sub
 use Rattle.mm_types.specs.MapsText.{list_text}
 use Rattle.trace_reader.specs.Values.{child_of}
 use Rattle.history.specs.declared.items.Content.{Content}
-use Rattle.output.specs.Output.{start_text, result_text}
-use Rattle.output.specs.Internal.Printed.{IsLine, first_text, more_text, shown}
+use Rattle.output.specs.Output.{item_start, result_text}
+use Rattle.output.specs.Internal.Printed.{IsLine, first_text, more_text, content_of_answer}
 use Rattle.output.specs.Internal.Judging.{HasRead, IsBadAt}
 use Rattle.output.proofs.ItemLines.{first_line, start_plain}
 use Rattle.output.proofs.Stopped.{item_printed, item_parts, two_parts, two_stop, stop_more, err_is, on_ok, if_err}
@@ -13,8 +13,8 @@ use Rattle.output.proofs.given.Given.expect_item.Goals as goal
 pub expect-requires-clause-line : goal.expect-requires-clause-line
 expect-requires-clause-line c =
     let child : Option ℕ = child_of c.args.asked.now.op in
-    let content : Content = shown c.args.space.now.space.areas c.args.answer.now in
-    let start : List ℕ = start_text c.args.asked.now c.args.version in
+    let content : Content = content_of_answer c.args.space.now.space.areas c.args.answer.now in
+    let start : List ℕ = item_start c.args.asked.now c.args.version in
     let first : List ℕ = start ++ first_text child content in
     let is : c.as_slice.result.now ≡ first =
     item_printed c.as_slice.result.now _ _ _ start (first_text child content) c.as_slice.ensures.value
@@ -24,8 +24,8 @@ expect-requires-clause-line c =
 pub returns-in_err-expect-clause-bad : goal.returns-in_err-expect-clause-bad
 returns-in_err-expect-clause-bad c = λ text before read.
     let child : Option ℕ = child_of c.args.asked.now.op in
-    let content : Content = shown c.args.space.now.space.areas c.args.answer.now in
-    let start : List ℕ = start_text c.args.asked.now c.args.version in
+    let content : Content = content_of_answer c.args.space.now.space.areas c.args.answer.now in
+    let start : List ℕ = item_start c.args.asked.now c.args.version in
     let first : List ℕ = start ++ first_text child content in
     let is : c.as_slice.result.now ≡ first =
     item_printed c.as_slice.result.now _ _ _ start (first_text child content) c.as_slice.ensures.value
@@ -40,8 +40,8 @@ returns-in_err-expect-clause-bad c = λ text before read.
 pub returns-then-shows_areas-clause-ok : goal.returns-then-shows_areas-clause-ok
 returns-then-shows_areas-clause-ok c = λ text before read.
     let child : Option ℕ = child_of c.args.asked.now.op in
-    let content : Content = shown c.args.space.now.space.areas c.args.answer.now in
-    let start : List ℕ = start_text c.args.asked.now c.args.version in
+    let content : Content = content_of_answer c.args.space.now.space.areas c.args.answer.now in
+    let start : List ℕ = item_start c.args.asked.now c.args.version in
     let first : List ℕ = start ++ first_text child content in
     let is : c.as_slice.result.now ≡ first =
     item_printed c.as_slice.result.now _ _ _ start (first_text child content) c.as_slice.ensures.value
@@ -58,8 +58,8 @@ returns-then-shows_areas-clause-ok c = λ text before read.
 pub returns-then-shows_areas-clause-bad : goal.returns-then-shows_areas-clause-bad
 returns-then-shows_areas-clause-bad c = λ text before read.
     let child : Option ℕ = child_of c.args.asked.now.op in
-    let content : Content = shown c.args.space.now.space.areas c.args.answer.now in
-    let start : List ℕ = start_text c.args.asked.now c.args.version in
+    let content : Content = content_of_answer c.args.space.now.space.areas c.args.answer.now in
+    let start : List ℕ = item_start c.args.asked.now c.args.version in
     let first : List ℕ = start ++ first_text child content in
     let is : c.as_slice.result.now ≡ first =
     item_printed c.as_slice.result.now _ _ _ start (first_text child content) c.as_slice.ensures.value
@@ -77,8 +77,8 @@ returns-then-shows_areas-clause-bad c = λ text before read.
 pub returns-else-shows_areas-clause-ok : goal.returns-else-shows_areas-clause-ok
 returns-else-shows_areas-clause-ok c = λ text before read.
     let child : Option ℕ = child_of c.args.asked.now.op in
-    let content : Content = shown c.args.space.now.space.areas c.args.answer.now in
-    let start : List ℕ = start_text c.args.asked.now c.args.version in
+    let content : Content = content_of_answer c.args.space.now.space.areas c.args.answer.now in
+    let start : List ℕ = item_start c.args.asked.now c.args.version in
     let first : List ℕ = start ++ first_text child content in
     let is : c.as_slice.result.now ≡ first =
     item_printed c.as_slice.result.now _ _ _ start (first_text child content) c.as_slice.ensures.value

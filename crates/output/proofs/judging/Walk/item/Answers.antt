@@ -3,20 +3,20 @@ use Rattle.std.proofs.Common.{◌==◌, ◌∙◌, sym, ap, subst, refl, length,
 use Rattle.std.proofs.lemmas.Bool.{false≢true}
 use Rattle.output.specs.declared.stop.Stop.{Stop}
 use Rattle.output.specs.Judgements.{items_text}
-use Rattle.output.specs.Internal.Judging.{IsToldRightly, trace_over}
+use Rattle.output.specs.Internal.Judging.{IsStopRight, trace_over}
 use Rattle.output.proofs.Walked.{walked_room, counts_room, walked_more}
 use Rattle.output.proofs.Stopped.{stop_short, stop_none, stop_order, stop_item, tells_item, ran_from, passed_version, passed_lowest, none_long, err_is, called_no}
 use Rattle.output.proofs.judging.Walk.item.Goals as goal
 
 pub returns-then-is_at_end-clause-bad : goal.returns-then-is_at_end-clause-bad
 returns-then-is_at_end-clause-bad c = λ text walked.
-    subst (λ (stop : Stop). IsToldRightly (trace_over c.args.config.now c.args.lines.now) text stop) (sym c.bad.ensures)
+    subst (λ (stop : Stop). IsStopRight (trace_over c.args.config.now c.args.lines.now) text stop) (sym c.bad.ensures)
     (stop_short (trace_over c.args.config.now c.args.lines.now) text c.args.self.now walked c.requires.left
     (none_long c.args.self.now.given.rest.now (eqb-true (length c.args.self.now.given.rest.now) 0 (sym c.if-is_at_end.ensures))))
 
 pub returns-in_default-clause-bad : goal.returns-in_default-clause-bad
 returns-in_default-clause-bad c = λ text walked.
-    subst (λ (stop : Stop). IsToldRightly (trace_over c.args.config.now c.args.lines.now) text stop) (sym c.bad-in_default.ensures)
+    subst (λ (stop : Stop). IsStopRight (trace_over c.args.config.now c.args.lines.now) text stop) (sym c.bad-in_default.ensures)
     (stop_none (trace_over c.args.config.now c.args.lines.now) text c.args.self.now walked c.requires.left
     (λ none. false≢true (c.if-is_at_end.ensures ∙ ap (λ l. length l == 0) none)) (c.in_default.ensures text walked))
 
@@ -25,7 +25,7 @@ run_op-answer-requires c = record { room = (walked_room (trace_over c.args.confi
 
 pub returns-then-not-is_in_order-clause-bad : goal.returns-then-not-is_in_order-clause-bad
 returns-then-not-is_in_order-clause-bad c = λ text walked.
-    subst (λ (stop : Stop). IsToldRightly (trace_over c.args.config.now c.args.lines.now) text stop) (sym c.bad-then-not-is_in_order.ensures)
+    subst (λ (stop : Stop). IsStopRight (trace_over c.args.config.now c.args.lines.now) text stop) (sym c.bad-then-not-is_in_order.ensures)
     (stop_order (trace_over c.args.config.now c.args.lines.now) text c.args.self.now walked c.requires.left
     (λ none. false≢true (c.if-is_at_end.ensures ∙ ap (λ l. length l == 0) none)) c.in-Some.line c.in-Some.caller
     c.run_op-answer.new.space.space.areas c.run_op-answer.result (c.in-Some.ensures text walked) c.run_op-answer.ensures.answer
@@ -39,7 +39,7 @@ version_with-version-requires c =
 
 pub returns-in_err-expect_item-clause-bad : goal.returns-in_err-expect_item-clause-bad
 returns-in_err-expect_item-clause-bad c = λ text walked.
-    err_is _ c.in_err-expect_item.field-0.0 (IsToldRightly (trace_over c.args.config.now c.args.lines.now) text) c.from_residual.ensures.1
+    err_is _ c.in_err-expect_item.field-0.0 (IsStopRight (trace_over c.args.config.now c.args.lines.now) text) c.from_residual.ensures.1
     (stop_item (trace_over c.args.config.now c.args.lines.now) text c.args.self.now walked c.requires.left
     (λ none. false≢true (c.if-is_at_end.ensures ∙ ap (λ l. length l == 0) none)) c.in-Some.line c.in-Some.caller c.version_with-version.result
     c.run_op-answer.new.space.space.areas c.run_op-answer.result (c.in-Some.ensures text walked)

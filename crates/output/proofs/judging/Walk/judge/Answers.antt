@@ -1,5 +1,5 @@
 -- The proof of `Walk::judge`: at the next item, and where no line is left.
-use Rattle.output.specs.Internal.Judging.{IsToldRightly, trace_over}
+use Rattle.output.specs.Internal.Judging.{IsStopRight, trace_over}
 use Rattle.output.proofs.Stopped.{err_is}
 use Rattle.output.proofs.judging.Walk.judge.Goals as goal
 
@@ -11,7 +11,7 @@ loop-self-preserved c = record {
 
 pub returns-in_err-item-clause-bad : goal.returns-in_err-item-clause-bad
 returns-in_err-item-clause-bad c = λ text walked.
-    err_is _ c.in_err-item.field-0.0 (IsToldRightly (trace_over c.args.config.now c.args.lines.now) text) c.from_residual.ensures.1
+    err_is _ c.in_err-item.field-0.0 (IsStopRight (trace_over c.args.config.now c.args.lines.now) text) c.from_residual.ensures.1
     (c.in_err-item.ensures.bad text (c.loop-self.invariant.kept text walked))
 
 pub returns-clause-ok : goal.returns-clause-ok

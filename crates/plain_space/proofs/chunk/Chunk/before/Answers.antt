@@ -2,7 +2,7 @@
 use Rattle.std.specs.List.{last_or}
 use Rattle.std.proofs.Common.{None, take, subst, sym, ap, ◌∙◌}
 use Rattle.split_merge.specs.Finding.{last_before}
-use Rattle.split_merge.specs.Internal.Sorted.{begins_below, BeginsAscend}
+use Rattle.split_merge.specs.Sorted.{begins_below, BeginsAscend}
 use Rattle.split_merge.proofs.Going.{ascending_pairs}
 use Rattle.plain_space.proofs.InOrder.{front_is}
 use Rattle.plain_space.proofs.chunk.Chunk.before.Goals as goal

@@ -1,7 +1,7 @@
 -- For `Chunk::from` of chunk.rt: its goals.
 use Rattle.std.proofs.Common.{slice_get, ap, ◌∙◌}
 use Rattle.split_merge.specs.Finding.{first_from}
-use Rattle.split_merge.specs.Internal.Sorted.{ends_by}
+use Rattle.split_merge.specs.Sorted.{ends_by}
 use Rattle.plain_space.proofs.InOrder.{from_is}
 use Rattle.plain_space.proofs.chunk.Chunk.from.Goals as goal
 

@@ -4,7 +4,7 @@ use Rattle.std.specs.List.{insert}
 use Rattle.std.specs.Result.{is_ok}
 use Rattle.std.proofs.lemmas.Bool.{cond-true}
 use Rattle.area_list.specs.Changes.{insert_area}
-use Rattle.split_merge.specs.Internal.Sorted.{begins_below}
+use Rattle.split_merge.specs.Sorted.{begins_below}
 use Rattle.split_merge.proofs.Going.{insert_is}
 use Rattle.plain_space.specs.Internal.Gaps.{gap_before, gap_around, widest_gap}
 use Rattle.plain_space.proofs.Widening.{come_changed}

@@ -3,7 +3,7 @@ use Rattle.std.proofs.Common.{◌≡◌, max, [], ◌∷◌, List, length, subst
 use Rattle.std.specs.List.{remove, Contains}
 use Rattle.mm_types.specs.declared.area.Record.{Record}
 use Rattle.split_merge.specs.Plans.{without}
-use Rattle.split_merge.specs.Internal.Sorted.{begins_below, BeginsAscend}
+use Rattle.split_merge.specs.Sorted.{begins_below, BeginsAscend}
 use Rattle.split_merge.proofs.Editing.{begins_member}
 use Rattle.split_merge.proofs.Going.{remove_is}
 use Rattle.plain_space.specs.Internal.Gaps.{gap_before, gap_around, widest_gap}

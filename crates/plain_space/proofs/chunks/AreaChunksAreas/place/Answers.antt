@@ -1,9 +1,9 @@
 -- For `AreaChunks::place` of chunks.rt: its goals.
 use Rattle.std.proofs.Common.{subst, sym}
-use Rattle.plain_space.specs.Internal.Chunks.{AreApart}
+use Rattle.plain_space.specs.Internal.Chunks.{AscendApart}
 use Rattle.plain_space.proofs.InOrder.{apart}
 use Rattle.plain_space.proofs.chunks.AreaChunksAreas.place.Goals as goal
 
 pub place_low-requires : goal.place_low-requires
-place_low-requires c = subst AreApart (sym c.as_slice.ensures.value)
+place_low-requires c = subst AscendApart (sym c.as_slice.ensures.value)
     (apart _ c.self.inside.store.chunks.items c.self.invariant.sane.filled c.self.invariant.kept.canonical)

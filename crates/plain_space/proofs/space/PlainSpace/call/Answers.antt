@@ -4,7 +4,7 @@ use Rattle.mm_types.specs.declared.call.Counters.{Counters}
 use Rattle.area_rules.specs.Steps.{step, IsReady}
 use Rattle.area_rules.specs.Tables.{space_of}
 use Rattle.area_rules.proofs.Stepping.{step_objects}
-use Rattle.split_merge.specs.Plans.{PlanView, IsKept}
+use Rattle.split_merge.specs.Plans.{PlanView, IsPlannedFor}
 use Rattle.plain_space.specs.Stored.{Stored}
 use Rattle.plain_space.specs.declared.space.PlainSpace.TheInside.{Inside}
 use Rattle.plain_space.specs.Kept.{IsPlain}
@@ -42,7 +42,7 @@ invariant_of-self c =
       valid = i.valid;
       bounds = ap (λ (a : Stored). a.bounds) stored ∙ i.bounds;
       most = ap (λ (a : Stored). a.most) stored ∙ i.most;
-      kept = subst (λ (a : Stored). IsKept a.bounds a.most a.list) (sym stored) called.planned.kept;
+      kept = subst (λ (a : Stored). IsPlannedFor a.bounds a.most a.list) (sym stored) called.planned.kept;
       files = kept.files;
       counted = kept.counted;
       private = kept.private;

@@ -5,7 +5,7 @@ use Rattle.std.proofs.lemmas.List.{get_or_read, get_or-set_same}
 use Rattle.std.proofs.lemmas.List.Elements.{All-set}
 use Rattle.mm_types.specs.declared.area.Record.{Record}
 use Rattle.area_list.specs.Changes.{insert_area}
-use Rattle.plain_space.specs.Internal.Chunks.{areas_of, IsFilled}
+use Rattle.plain_space.specs.Internal.Chunks.{areas_in_chunks, IsFilled}
 use Rattle.plain_space.proofs.Filling.{others_filled, one_longer, one_longer_at}
 use Rattle.plain_space.proofs.store.Store.insert_at.Goals as goal
 
@@ -48,7 +48,7 @@ relieve-requires-clause-few c =
     let within : place < length chunks = omega (arith, len, c.requires.within) in
     let read = get_or_read chunks place c.index_mut-chunk.result.now within c.index_mut-chunk.ensures.value [] in
     let changed = c.insert.ensures ∙ ap (insert_area c.args.new) read in
-    omega (arith, ap (λ chunk. length (areas_of (set chunks place chunk))) changed, one_longer_at chunks place c.args.new within, c.requires.few)
+    omega (arith, ap (λ chunk. length (areas_in_chunks (set chunks place chunk))) changed, one_longer_at chunks place c.args.new within, c.requires.few)
 
 pub returns-else-is_large-clause-stays : goal.returns-else-is_large-clause-stays
 returns-else-is_large-clause-stays c =

@@ -6,7 +6,7 @@ use Rattle.std.proofs.lemmas.List.Elements.{All-set}
 use Rattle.mm_types.specs.declared.area.Record.{Record}
 use Rattle.split_merge.specs.Plans.{starts_alike, without}
 use Rattle.split_merge.proofs.Lists.{length-filter_at_most}
-use Rattle.plain_space.specs.Internal.Chunks.{areas_of, IsFilled}
+use Rattle.plain_space.specs.Internal.Chunks.{areas_in_chunks, IsFilled}
 use Rattle.plain_space.proofs.Filling.{emptied_areas}
 use Rattle.plain_space.proofs.store.Store.remove_at.Goals as goal
 
@@ -20,9 +20,9 @@ returns-then-is_empty-clause-areas c =
     let changed : List (List Record) = set chunks place c.remove.new.self in
     let inside : place < length changed = omega (arith, within, length-set chunks place c.remove.new.self) in
     let empty : length c.remove.new.self ≤ 0 = leb-true (length c.remove.new.self) 0 (sym c.is_empty.ensures ∙ c.if-is_empty.true) in
-    ap areas_of c.remove-empty.ensures.by_index.2
+    ap areas_in_chunks c.remove-empty.ensures.by_index.2
     ∙ emptied_areas changed place inside (omega (arith, empty, ap length (get_or-set_same chunks place c.remove.new.self [] within)))
-    ∙ ap (λ chunk. areas_of (set chunks place chunk)) (c.remove.ensures ∙ ap (without (c.args.old.now ∷ [])) read)
+    ∙ ap (λ chunk. areas_in_chunks (set chunks place chunk)) (c.remove.ensures ∙ ap (without (c.args.old.now ∷ [])) read)
 
 pub returns-else-is_empty-clause-stays : goal.returns-else-is_empty-clause-stays
 returns-else-is_empty-clause-stays c =

@@ -1,6 +1,6 @@
 -- For `give_back_turn`: the split and the join keep the rule.
 use Rattle.std.proofs.Common.{◌∙◌, sym, ap, arith}
-use Rattle.lock_core.specs.Core.{held}
+use Rattle.lock_core.specs.Core.{slot_held}
 use Rattle.vma_lock.proofs.Turning.{turn_splits, returned_joins}
 use Rattle.vma_lock.proofs.seats.VmaTable.give_back_turn.Goals as goal
 
@@ -18,5 +18,5 @@ join_seat-requires c =
       note.3 ∙ c.requires.0,
       ap (λ m. m.1) note.4,
       omega (arith, sized.words_are),
-      returned_joins _ _ _ _ _ c.args.seat.now.kept.kind (ap (λ m. held m.0.stage) note.4),
+      returned_joins _ _ _ _ _ c.args.seat.now.kept.kind (ap (λ m. slot_held m.0.stage) note.4),
     )

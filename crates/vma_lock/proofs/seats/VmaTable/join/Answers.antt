@@ -1,6 +1,6 @@
 -- For `join`: the join and the load that tells of it keep the rule.
 use Rattle.std.proofs.Common.{◌∙◌, ap, arith}
-use Rattle.lock_core.specs.Core.{held}
+use Rattle.lock_core.specs.Core.{slot_held}
 use Rattle.vma_lock.proofs.Turning.{reader_joins, tell_allows}
 use Rattle.vma_lock.proofs.seats.VmaTable.join.Goals as goal
 
@@ -12,7 +12,7 @@ join_seat-requires c =
       c.requires.tables.1,
       c.args.other.kept.empty,
       omega (arith, sized.words_are),
-      reader_joins _ _ _ _ _ c.args.seat.now.kept.kind (ap held c.requires.free),
+      reader_joins _ _ _ _ _ c.args.seat.now.kept.kind (ap slot_held c.requires.free),
     )
 
 pub load-requires : goal.load-requires

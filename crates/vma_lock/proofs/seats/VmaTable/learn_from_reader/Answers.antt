@@ -1,6 +1,6 @@
 -- For `learn_from_reader`: the split, the join and the load that tells of it keep the rule.
 use Rattle.std.proofs.Common.{◌∙◌, sym, ap, arith}
-use Rattle.lock_core.specs.Core.{held}
+use Rattle.lock_core.specs.Core.{slot_held}
 use Rattle.vma_lock.proofs.Turning.{note_splits, heard_joins, tell_allows}
 use Rattle.vma_lock.proofs.seats.VmaTable.learn_from_reader.Goals as goal
 
@@ -18,7 +18,7 @@ join_seat-requires c =
       note.3 ∙ c.requires.1,
       ap (λ m. m.1) note.4,
       omega (arith, sized.words_are),
-      heard_joins _ _ _ _ _ c.args.writer.now.kept.kind (ap (λ m. held m.0.stage) note.4),
+      heard_joins _ _ _ _ _ c.args.writer.now.kept.kind (ap (λ m. slot_held m.0.stage) note.4),
     )
 
 pub load-requires : goal.load-requires

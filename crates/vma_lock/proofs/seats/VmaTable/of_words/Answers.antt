@@ -2,8 +2,8 @@
 use Rattle.std.proofs.Common.{ℕ, zero, suc, ◌≡◌, ◌∙◌, List, [], ◌∷◌, ◌++◌, length, slice_get, Some, sym, ap, subst, rules}
 use Rattle.std.proofs.lemmas.Option.{same_Some, none-some}
 use Rattle.vma_lock.specs.declared.seats.ReaderSeat.{ReaderSeat as Reader}
-use Rattle.vma_lock.specs.Views.{opened_view, new_reader}
-use Rattle.vma_lock.specs.Seats.{IsOf, view}
+use Rattle.vma_lock.specs.Views.{opened_lock_view, new_lock_reader}
+use Rattle.vma_lock.specs.Seats.{IsOfVmaTable, lock_view}
 use Rattle.vma_lock.proofs.seats.VmaTable.of_words.Goals as goal
 
 -- what is so of each element and of one that is pushed is so of each element then
@@ -23,8 +23,8 @@ loop-caller-preserved c =
       writer = search rules;
       count = search rules;
       fresh = λ caller seat found.
-          pushed_each (λ place (one : Reader). IsOf one c.in_ok-table.table × (view one ≡ new_reader (opened_view c.args.config.now place)))
+          pushed_each (λ place (one : Reader). IsOfVmaTable one c.in_ok-table.table × (lock_view one ≡ new_lock_reader (opened_lock_view c.args.config.now place)))
           c.loop-caller.seats.items c.new_reader.result before.fresh
-          (rw before.count (c.new_reader.ensures.table.1, c.new_reader.ensures.view ∙ ap new_reader before.writer))
+          (rw before.count (c.new_reader.ensures.table.1, c.new_reader.ensures.view ∙ ap new_lock_reader before.writer))
           caller seat (sym (ap (λ (l : List Reader). slice_get l caller) c.in_ok-push.ensures.items) ∙ found);
     }

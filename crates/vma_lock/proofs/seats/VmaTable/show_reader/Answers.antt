@@ -1,6 +1,6 @@
 -- For `show_reader`: the split and the join keep the rule.
 use Rattle.std.proofs.Common.{◌∙◌, sym, ap, arith}
-use Rattle.lock_core.specs.Core.{held}
+use Rattle.lock_core.specs.Core.{slot_held}
 use Rattle.vma_lock.proofs.Turning.{note_splits, reader_joins}
 use Rattle.vma_lock.proofs.seats.VmaTable.show_reader.Goals as goal
 
@@ -18,5 +18,5 @@ join_seat-requires c =
       note.3 ∙ c.requires.0,
       ap (λ m. m.1) note.4,
       omega (arith, sized.words_are),
-      reader_joins _ _ _ _ _ c.args.seat.now.kept.kind (ap (λ m. held m.0.stage) note.4),
+      reader_joins _ _ _ _ _ c.args.seat.now.kept.kind (ap (λ m. slot_held m.0.stage) note.4),
     )

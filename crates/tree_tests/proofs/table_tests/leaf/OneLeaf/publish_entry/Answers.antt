@@ -4,7 +4,7 @@ use Rattle.grace_core.specs.Core.{times}
 use Rattle.maple_node.specs.Levels.{at_of}
 use Rattle.node_slots.specs.declared.view.NodeView.{NodeView}
 use Rattle.node_slots.specs.declared.view.Size.{Size}
-use Rattle.node_slots.specs.Seats.{sight, writer_state, free_of, left_of, row_count, is_present}
+use Rattle.node_slots.specs.Seats.{node_sight, writer_state, free_of, retired_rows, row_count, is_present}
 use Rattle.node_slots.proofs.Counting.{times_last, one_if}
 use Rattle.node_slots.proofs.Listing.{kept_from}
 use Rattle.tree_tests.proofs.Leaves.{leaf_rows, leaf_layout, next_alone, alone_reached}
@@ -22,7 +22,7 @@ leave-requires-clause-kept c =
     let count = ap (times row) c.in_ok-row.ensures.free ∙ times_last row c.in_ok-row.row.0 (free_of c.take_row.new.writer) in
     let free = ap (times row) c.fill.ensures.lists.0 in
     let left = ap (times row) (c.fill.ensures.lists.1 ∙ c.in_ok-row.ensures.left) in
-    kept_from (row_count filled) row (times row (free_of filled) + times row (left_of filled)) within
+    kept_from (row_count filled) row (times row (free_of filled) + times row (retired_rows filled)) within
     (omega (arith, kept.alone row kept.within, one_if row row refl, count, free, left))
 
 pub publish-requires-clause-layout : goal.publish-requires-clause-layout
@@ -33,11 +33,11 @@ publish-requires-clause-layout c =
     let filled = c.leave.ensures.view ∙ c.fill.ensures.view in
     let within = (writer_taken taken row c.in_ok-row.ensures.taken).0 in
     let known = taken.writer_state.kept in
-    let low : row < length (sight taken).known.writer_state.words = omega (arith, within, known.rows, ap length known.words_are) in
+    let low : row < length (node_sight taken).known.writer_state.words = omega (arith, within, known.rows, ap length known.words_are) in
     let words = ap (λ (v : NodeView). at_of v.known.writer_state.words row) filled ∙ get_or-set_same _ _ _ _ low ∙ c.leaf_words-words.ensures in
     let slots = ap (λ (v : NodeView). v.size.slots) filled ∙ ap (λ (v : NodeView). v.size.slots) c.in_ok-row.ensures.view
     ∙ c.args.self.now.kept.1.slots in
-    leaf_layout (at_of (writer_state next).words) (sight next).size.slots ((writer_state next).tree.number + 1) row c.args.end.0 _ words
+    leaf_layout (at_of (writer_state next).words) (node_sight next).size.slots ((writer_state next).tree.number + 1) row c.args.end.0 _ words
     c.requires.end (omega (arith, slots, c.requires.slot))
 
 pub publish-requires-clause-rows : goal.publish-requires-clause-rows
@@ -53,9 +53,9 @@ publish-requires-clause-rows c = λ other.
     let low : row < row_count next = subst (λ (s : Size). row < s.rows) (sym (size ∙ taken.writer_state.kept.size_is)) within in
     let left = ap (times other) (c.fill.ensures.lists.1 ∙ c.in_ok-row.ensures.left) in
     ap (times other) (leaf_rows (writer_state next).words ((writer_state next).tree.number + 1) row)
-    ∙ alone_reached (row_count next) row other (times other (free_of next) + times other (left_of next)) low
-    (λ inside. next_alone other c.args.self.now.row.0 row (is_present filled c.args.self.now.row.0) (free_of old) (free_of filled) (left_of filled)
-    (free_of next) (left_of next) (c.in_ok-row.ensures.free ∙ ap (λ (l : List ℕ). l ++ row ∷ []) (sym c.fill.ensures.lists.0)) c.leave.ensures.free
+    ∙ alone_reached (row_count next) row other (times other (free_of next) + times other (retired_rows next)) low
+    (λ inside. next_alone other c.args.self.now.row.0 row (is_present filled c.args.self.now.row.0) (free_of old) (free_of filled) (retired_rows filled)
+    (free_of next) (retired_rows next) (c.in_ok-row.ensures.free ∙ ap (λ (l : List ℕ). l ++ row ∷ []) (sym c.fill.ensures.lists.0)) c.leave.ensures.free
     c.leave.ensures.left
     (omega (arith, left, c.args.self.now.kept.1.alone other (subst (λ (s : Size). other < s.rows) sizes inside))))
 
@@ -80,7 +80,7 @@ invariant_of-self-2 c =
           alone = λ other low.
               let left = ap (times other) (c.fill.ensures.lists.1 ∙ c.in_ok-row.ensures.left) in
               let alone = next_alone other c.args.self.now.row.0 row (is_present filled c.args.self.now.row.0) (free_of old) (free_of filled)
-              (left_of filled) (free_of next) (left_of next)
+              (retired_rows filled) (free_of next) (retired_rows next)
               (c.in_ok-row.ensures.free ∙ ap (λ (l : List ℕ). l ++ row ∷ []) (sym c.fill.ensures.lists.0)) c.leave.ensures.free c.leave.ensures.left
               (omega (arith, left, c.args.self.now.kept.1.alone other (subst (λ (s : Size). other < s.rows) sizes low))) in
               omega (arith, alone, ap (times other) c.publish.ensures.lists.0, ap (times other) c.publish.ensures.lists.1);

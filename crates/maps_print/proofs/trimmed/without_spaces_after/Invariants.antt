@@ -2,7 +2,7 @@
 use Rattle.std.proofs.Common.{◌≡◌, ◌+◌, ◌≤◌, length, take, nat_eq}
 use Rattle.std.specs.List.{suffix_len}
 use Rattle.std.specs.Str.{byte}
-use Rattle.maps_read.proofs.answering.without_spaces_after.Given as goal
+use Rattle.maps_print.proofs.trimmed.without_spaces_after.Given as goal
 
 -- what is left and the spaces behind it are the text
 abbrev pub invariant-loop-len : goal.invariant-loop-len

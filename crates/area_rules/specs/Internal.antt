@@ -1,2 +1,0 @@
--- What no clause of a public function cites: it follows the code, and may change with it.
-pub mod Blockers
