@@ -3,21 +3,21 @@ from __future__ import annotations
 
 import re
 from collections.abc import Mapping, Sequence
-from dataclasses import asdict, dataclass, replace
+from dataclasses import asdict, dataclass
 from pathlib import Path
 
 from vmatools.linux.versions import TABLE, TEXTS, Rules, Version, table, text_of
 
 from ..reference.definitions import Definition, Topic, read_topic
 from .resolving import resolved
-from .versions import ALONE
+from .statements import rules_name
 
 SPECS = Path("crates/linux_rules/specs")
 FOLDER = Path("docs/linux")
 FILES = (
     "Areas Merging AnonVmas Accounts Searching Mmap Munmap Mprotect Mseal Mremap Brk Faults Forks Showing Doing".split()
 )
-ROOTS = "mmap munmap mprotect mseal mremap brk fault fork child_of maps_lines".split()
+ROOTS = "mmap munmap mprotect mseal mremap brk fault fork child_space maps_lines".split()
 WORDS = re.compile(r"[\w◌>=-]+")
 
 
@@ -30,15 +30,14 @@ class Page:
 
     @property
     def name(self) -> str:
-        major, minor = self.versions[0][:2]
-        return f"{major}.{minor}.md"
+        return rules_name(text_of(self.versions[0])).removeprefix("linux_").replace("_", ".") + ".md"
 
 
 def page_list() -> list[Page]:
-    """A page for each set of rules, as far as the definitions have them."""
+    """A page for each set of rules."""
     found: dict[Rules, list[Version]] = {}
     for version, rules in table().items():
-        found.setdefault(replace(rules, **dict.fromkeys(ALONE, False)), []).append(version)
+        found.setdefault(rules, []).append(version)
     return [Page(versions, rules) for rules, versions in found.items()]
 
 
@@ -60,8 +59,7 @@ def switches(rules: Rules) -> list[str]:
     lines = ["| Switch | This version | What a version does that has it | Where |", "|---|---|---|---|"]
     for row in TABLE.read_text(encoding="utf-8").splitlines()[1:]:
         name, where, _, what = row.split("\t")[:TEXTS]
-        if name not in ALONE:
-            lines.append(f"| `{name}` | {'yes' if getattr(rules, name) else 'no'} | {what} | {where} |")
+        lines.append(f"| `{name}` | {'yes' if getattr(rules, name) else 'no'} | {what} | {where} |")
     return lines
 
 

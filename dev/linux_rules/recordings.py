@@ -36,7 +36,7 @@ class Step:
         maps = "None"
         if self.maps is not None:
             maps = f"(Some ({terms.listed([terms.maps_line(trace, line) for line in self.maps])}))"
-        return f"step {self.place} ({terms.operation(self.line)}) ({terms.answer(self.answer)}) {maps}"
+        return f"kernel_step {self.place} ({terms.operation(self.line)}) ({terms.answer(self.answer)}) {maps}"
 
 
 def steps_of(trace: Trace, output: str) -> list[Step]:

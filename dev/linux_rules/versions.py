@@ -12,7 +12,6 @@ from .statements import CRATE, rules_name
 
 FILE = CRATE / "specs" / "Versions.antt"
 TABLE = "tools/vmatools/linux/versions.tsv"
-ALONE = ("loses_written",)  # switches that the model has, and the definitions not yet
 DEFINED = re.compile(r"^(linux_\w+) = (?:record (?:(linux_\w+) )?\{(.*?)\}|(linux_\w+))$", re.M | re.S)
 SWITCH = re.compile(r"(\w+) = (true|false)")
 
@@ -38,7 +37,7 @@ def differences(text: str, wanted: Mapping[str, Mapping[str, bool]]) -> Iterator
             continue
         for switch in sorted(found[name].keys() | wanted[version].keys()):
             here, there = found[name].get(switch), wanted[version].get(switch)
-            if here != there and not (here is None and switch in ALONE):
+            if here != there:
                 yield f"{FILE}: {name} has {switch} = {here}; {TABLE} has {there} for {version}"
 
 

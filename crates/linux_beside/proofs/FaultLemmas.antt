@@ -20,10 +20,10 @@ use Rattle.linux_rules.specs.declared.verdict.LinuxVerdict.TheVariants.{Served, 
 use Rattle.linux_rules.specs.AnonVmas.{anon_vma_prepare, mergeable_anon}
 use Rattle.linux_rules.specs.Areas as areas
 use Rattle.linux_rules.specs.Doing.{LinuxSpace, Did, ◌>>=◌, go_on, done}
-use Rattle.linux_rules.specs.Faults.{object_pages, answered, area_verdict, is_exec, is_denied, is_write, is_huge_fault}
+use Rattle.linux_rules.specs.Faults.{object_pages, fault_answer, area_verdict, is_exec, access_error, is_write, is_huge_fault}
 use Rattle.linux_rules.specs.Recorded as linux
 use Rattle.linux_rules.specs.Steps.{Answer, Serves, Signal}
-use Rattle.linux_beside.specs.Faulting.{forgotten_space, is_past_end}
+use Rattle.linux_beside.specs.Faulting.{forgotten_space, is_past_object_end}
 use Rattle.linux_beside.specs.Forgetting.{forgotten}
 use Rattle.linux_beside.specs.InOrder.{AreInOrder}
 use Rattle.linux_beside.proofs.OrderLemmas.{replaced_in_place}
@@ -40,7 +40,7 @@ past_by_profile kernel vma page = not (nat_eq vma.file 0)
 
 -- it agrees with Linux's, but for objects that are no files of the trace
 pub same_past_end : (kernel : Kernel) (space : LinuxSpace) (vma : Vma) (page : ℕ) → All (λ file. file.size < 2 ^ 63) kernel.config.files
-    → (length kernel.config.files < vma.file → is_past_end kernel space vma page ≡ false) → is_past_end kernel space vma page ≡ past_by_profile kernel vma page
+    → (length kernel.config.files < vma.file → is_past_object_end kernel space vma page ≡ false) → is_past_object_end kernel space vma page ≡ past_by_profile kernel vma page
 unfolding object_pages
 same_past_end kernel space vma page small object = at (nat_eq vma.file 0) (nat_le vma.file (length kernel.config.files)) refl refl
   where
@@ -51,7 +51,7 @@ same_past_end kernel space vma page small object = at (nat_eq vma.file 0) (nat_l
     index = vma.pgoff + (page - vma.lo)
 
     at : (plain within : Bool) → nat_eq vma.file 0 ≡ plain → nat_le vma.file (length files) ≡ within
-        → is_past_end kernel space vma page ≡ past_by_profile kernel vma page
+        → is_past_object_end kernel space vma page ≡ past_by_profile kernel vma page
     at true within plain is = rw plain
     at false true plain is =
         let inside : vma.file - 1 < length files = grind (arith, nat_tests) in
@@ -67,8 +67,8 @@ same_past_end kernel space vma page small object = at (nat_eq vma.file 0) (nat_l
 
 -- the answer to an access to a page that an area has: of another area with the same pages, file and flags the same
 answered_same : (past denied : Bool) (index : ℕ) (vma : Vma) (anon : Option AnonVma)
-    → linux.answer_of (if past then BusErr else (if denied then AccErr else Served (record vma { anon = anon }) index))
-    ≡ linux.answer_of (if past then BusErr else (if denied then AccErr else Served vma index))
+    → linux.verdict_shown (if past then BusErr else (if denied then AccErr else Served (record vma { anon = anon }) index))
+    ≡ linux.verdict_shown (if past then BusErr else (if denied then AccErr else Served vma index))
 answered_same true denied index vma anon = refl
 answered_same false true index vma anon = refl
 answered_same false false index vma anon = refl
@@ -94,9 +94,9 @@ index_is vma page = same_index (nat_eq vma.file 0) vma.pgoff (page - vma.lo)
 
 -- what an access past its rights answers
 pub answered_is : (kernel : Kernel) (vma : Vma) (page : ℕ) (access : Access) (space : LinuxSpace)
-    → answered kernel vma page access space
-    ≡ (if is_past_end kernel space vma page then BusErr else (if is_exec access && not vma.flags.access.exec then AccErr else Served vma (index vma page)))
-unfolding answered
+    → fault_answer kernel vma page access space
+    ≡ (if is_past_object_end kernel space vma page then BusErr else (if is_exec access && not vma.flags.access.exec then AccErr else Served vma (index vma page)))
+unfolding fault_answer
 answered_is kernel vma page access space = answered_parts (nat_eq vma.file 0) (is_exec access && not vma.flags.access.exec) (object_pages kernel space vma.file)
     (vma.pgoff + (page - vma.lo)) vma
 
@@ -181,7 +181,7 @@ abbrev pub served : Vma → ℕ → Answer
 served vma page = Serves vma.lo vma.hi vma.flags.access vma.flags.mayshare (index vma page)
 
 answer_parts : (past exec : Bool) (vma : Vma) (at : ℕ)
-    → linux.answer_of (if past then BusErr else (if exec then AccErr else Served vma at))
+    → linux.verdict_shown (if past then BusErr else (if exec then AccErr else Served vma at))
     ≡ by_linux false past exec (Serves vma.lo vma.hi vma.flags.access vma.flags.mayshare at)
 answer_parts true exec vma at = refl
 answer_parts false true vma at = refl
@@ -189,33 +189,33 @@ answer_parts false false vma at = refl
 
 -- whether the page lies past the end is the same as long as the objects are
 same_end : (kernel : Kernel) (space after : LinuxSpace) (vma : Vma) (page : ℕ) → after.objects ≡ space.objects
-    → is_past_end kernel after vma page ≡ is_past_end kernel space vma page
+    → is_past_object_end kernel after vma page ≡ is_past_object_end kernel space vma page
 unfolding object_pages
 same_end kernel space after vma page same = rw same
 
 -- the answer of an area that has some anon_vma by now
 answer_then : (kernel : Kernel) (space after : LinuxSpace) (vma : Vma) (anon : Option AnonVma) (page : ℕ) (access : Access) → after.objects ≡ space.objects
-    → linux.answer_of (answered kernel (record vma { anon = anon }) page access after)
-    ≡ by_linux false (is_past_end kernel space vma page) (is_exec access && not vma.flags.access.exec) (served vma page)
+    → linux.verdict_shown (fault_answer kernel (record vma { anon = anon }) page access after)
+    ≡ by_linux false (is_past_object_end kernel space vma page) (is_exec access && not vma.flags.access.exec) (served vma page)
 answer_then kernel space after vma anon page access same =
-    ap linux.answer_of (answered_is kernel (record vma { anon = anon }) page access after)
-    ∙ (answer_parts (is_past_end kernel after vma page) (is_exec access && not vma.flags.access.exec) (record vma { anon = anon }) (index vma page)
+    ap linux.verdict_shown (answered_is kernel (record vma { anon = anon }) page access after)
+    ∙ (answer_parts (is_past_object_end kernel after vma page) (is_exec access && not vma.flags.access.exec) (record vma { anon = anon }) (index vma page)
     ∙ ap (λ past. by_linux false past (is_exec access && not vma.flags.access.exec) (served vma page)) (same_end kernel space after vma page same))
 
 -- that an access is answered so, and leaves what the profile knows as it is
 pub record IsAnswered (space : LinuxSpace) (answer : Answer) (did : Did LinuxVerdict) : Type 0 where
   pub verdict : LinuxVerdict
   pub returns : did.result ≡ Ok verdict
-  pub says : linux.answer_of verdict ≡ answer
+  pub says : linux.verdict_shown verdict ≡ answer
   pub known : forgotten_space did.space ≡ forgotten_space space
 
 -- an access to a page that an area without a key has
 pub area_answered : (kernel : Kernel) (space : LinuxSpace) (page : ℕ) (access : Access) (vma : Vma) → AreInOrder space.areas
     → areas.find_vma space.areas page ≡ Some vma → vma.flags.pkey ≡ false
-    → IsAnswered space (by_linux (is_denied vma access) (is_past_end kernel space vma page) (is_exec access && not vma.flags.access.exec) (served vma page))
+    → IsAnswered space (by_linux (access_error vma access) (is_past_object_end kernel space vma page) (is_exec access && not vma.flags.access.exec) (served vma page))
     (area_verdict kernel vma page access space)
 unfolding area_verdict
-area_answered kernel space page access vma order found key = at vma.flags.pkey (is_denied vma access) key
+area_answered kernel space page access vma order found key = at vma.flags.pkey (access_error vma access) key
   where
     wanted : Bool
     wanted = (is_write access && not vma.flags.shared) || is_huge_fault kernel vma page
@@ -227,10 +227,10 @@ area_answered kernel space page access vma order found key = at vma.flags.pkey (
     did = prepared_if space page vma wanted order found
 
     next : Vma → LinuxSpace → Did LinuxVerdict
-    next after = λ space. done (answered kernel after page access space) space
+    next after = λ space. done (fault_answer kernel after page access space) space
 
     past : Bool
-    past = is_past_end kernel space vma page
+    past = is_past_object_end kernel space vma page
 
     denies : Bool
     denies = is_exec access && not vma.flags.access.exec
@@ -243,7 +243,7 @@ area_answered kernel space page access vma order found key = at vma.flags.pkey (
     at false true off = record { verdict = AccErr; returns = refl; says = refl; known = refl }
     at false false off = subst (λ (r : Result Vma ℕ). IsAnswered space (by_linux false past denies (served vma page)) (go_on step.space r next)) (sym did.returns)
         (record {
-          verdict = answered kernel (record vma { anon = did.anon }) page access step.space;
+          verdict = fault_answer kernel (record vma { anon = did.anon }) page access step.space;
           returns = refl;
           says = answer_then kernel space step.space vma did.anon page access did.objects;
           known = let a = did.areas in let b = did.brk in let o = did.objects in rw (a, b, o);

@@ -14,9 +14,9 @@ use Rattle.linux_rules.specs.declared.errors.TheConstants.{EPERM, ENOMEM, EINVAL
 use Rattle.linux_rules.specs.declared.kernel.Kernel.{Kernel}
 use Rattle.linux_rules.specs.Areas.{vma_lookup, vmas_in, split_at, at_limit, pages_of, is_aligned}
 use Rattle.linux_rules.specs.Doing.{LinuxSpace, Did, Doing, ◌>>=◌, ◌>>◌, go_on, done, refuse_if, areas_now}
-use Rattle.linux_rules.specs.Munmap.{split_first, split_last, to_each, gather, remove, is_bad_range, munmap}
+use Rattle.linux_rules.specs.Munmap.{split_first, split_last, to_each, gather_vmas, remove, is_bad_range, munmap}
 use Rattle.linux_beside.specs.InOrder.{AreInOrder, AreInOrderFrom}
-use Rattle.linux_beside.specs.Unmapping.{KeepsOrder, UnmapsItsRange, RefusedKeepsPages, UnmapsAsProfile}
+use Rattle.linux_beside.specs.Unmapping.{UnmapsItsRange, RefusedKeepsPages, UnmapsAsProfile}
 use Rattle.linux_beside.proofs.SplitLemmas.{NoneAcross, has, maps_to, split_order, split_maps}
 use Rattle.linux_beside.proofs.RemovalLemmas.{removed, lies_in, filter_order, removed_is, filter_maps, none_across, found_across, split_across, split_keeps}
 
@@ -46,7 +46,7 @@ cut_split space at page vma order near far found above below = record {
 }
 
 -- the area that is looked up has the page
-looked_up : (areas : List Vma) (page : ℕ) (vma : Vma) → vma_lookup areas page ≡ Some vma → (vma.lo ≤ page) × (page < vma.hi)
+pub looked_up : (areas : List Vma) (page : ℕ) (vma : Vma) → vma_lookup areas page ≡ Some vma → (vma.lo ≤ page) × (page < vma.hi)
 looked_up areas page vma found = let passes : has vma page ≡ true = find_passes (λ (v : Vma). has v page) areas vma found in
     (grind (arith, nat_tests), grind (arith, nat_tests))
 
@@ -96,8 +96,8 @@ pub record IsGathered (lo hi : ℕ) (space : LinuxSpace) (did : Did (List Vma)) 
   pub maps : (page : ℕ) → maps_to did.space.areas page ≡ maps_to space.areas page
   pub gone : (list : List Vma) → did.result ≡ Ok list → (list ≡ vmas_in did.space.areas lo hi) × NoneAcross lo did.space.areas × NoneAcross hi did.space.areas
 
-gathered : (kernel : Kernel) (lo hi : ℕ) (space : LinuxSpace) → 0 < hi → AreInOrder space.areas → IsGathered lo hi space (gather kernel lo hi space)
-unfolding gather
+pub gathered : (kernel : Kernel) (lo hi : ℕ) (space : LinuxSpace) → 0 < hi → AreInOrder space.areas → IsGathered lo hi space (gather_vmas kernel lo hi space)
+unfolding gather_vmas
 gathered kernel lo hi space some order = after first.result refl
   where
     first : Did Unit
@@ -163,7 +163,7 @@ unmapped kernel space addr len order = tested (is_bad_range kernel addr len) ref
     pages = pages_of len
 
     got : Did (List Vma)
-    got = gather kernel lo (lo + pages) space
+    got = gather_vmas kernel lo (lo + pages) space
 
     after : IsGathered lo (lo + pages) space got → 0 < pages → (r : Result (List Vma) ℕ) → got.result ≡ r → IsUnmapped lo pages space (go_on got.space r remove)
     after did some (Err error) is =
@@ -182,17 +182,17 @@ unmapped kernel space addr len order = tested (is_bad_range kernel addr len) ref
         }
 
     tested : (bad : Bool) → is_bad_range kernel addr len ≡ bad
-        → IsUnmapped lo pages space ((refuse_if bad EINVAL >> (gather kernel lo (lo + pages) >>= remove)) space)
+        → IsUnmapped lo pages space ((refuse_if bad EINVAL >> (gather_vmas kernel lo (lo + pages) >>= remove)) space)
     tested true is = record { order = order; some = λ same. absurd (cc); unmaps = λ page same. absurd (cc); keeps = λ page error same. refl }
     tested false is = let some = some_pages kernel addr len is in
         after (gathered kernel lo (lo + pages) space (omega arith) order) some got.result refl
 
 -- a length that is not refused doesn't wrap
-same_length : (len : ℕ) → len < 2 ^ 64 → 0 < pages_of len → pages_of len ≡ tables.pages_of len
+pub same_length : (len : ℕ) → len < 2 ^ 64 → 0 < pages_of len → pages_of len ≡ tables.pages_of len
 unfolding pages_of tables.pages_of
 same_length len small some = omega arith
 
-pub keeps_order : KeepsOrder
+pub keeps_order : (kernel : Kernel) (space : LinuxSpace) (addr len : ℕ) → AreInOrder space.areas → AreInOrder (munmap kernel addr len space).space.areas
 keeps_order kernel space addr len order = (unmapped kernel space addr len order).order
 
 pub unmaps_its_range : UnmapsItsRange

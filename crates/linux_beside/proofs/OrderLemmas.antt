@@ -6,7 +6,7 @@ use Rattle.area_list.specs.Areas.{area_at}
 use Rattle.area_rules.specs.Growing.{is_above}
 use Rattle.linux_rules.specs.declared.area.AnonVma.{AnonVma}
 use Rattle.linux_rules.specs.declared.area.Vma.{Vma}
-use Rattle.linux_rules.specs.Areas.{find_vma, without, with_vma, replaced}
+use Rattle.linux_rules.specs.Areas.{find_vma, without_vma, with_vma, replaced}
 use Rattle.linux_beside.specs.Forgetting.{forgotten}
 use Rattle.linux_beside.specs.InOrder.{AreInOrderFrom}
 
@@ -118,7 +118,7 @@ no_stack_at_end low page (first ∷ areas) order found = at (nat_lt page first.h
         let past : (first.flags.growsdown && nat_eq first.lo (page + 1)) ≡ false = grind (arith, nat_tests) in rw past rest
 
 -- none of the areas from a page on begins below it
-pub gone : (lo page : ℕ) (areas : List Vma) → AreInOrderFrom page areas → lo < page → without lo areas ≡ areas
+pub gone : (lo page : ℕ) (areas : List Vma) → AreInOrderFrom page areas → lo < page → without_vma lo areas ≡ areas
 gone lo page [] order below = refl
 gone lo page (vma ∷ areas) order below = let begin = order.0 in let some = order.1 in
     let rest = gone lo vma.hi areas order.2 (omega (arith, begin, some)) in grind (arith, nat_tests)
@@ -147,7 +147,7 @@ replaced_in_place low page (first ∷ areas) vma anon order found =
             let left = gone first.lo first.hi areas order.2 some in
             let front : with_vma (record first { anon = anon }) areas ≡ record first { anon = anon } ∷ areas =
             comes_first (record first { anon = anon }) first.hi areas order.2 (omega arith) in
-            let drops : without first.lo (first ∷ areas) ≡ areas = grind (arith, nat_tests) in rw (drops, front)
+            let drops : without_vma first.lo (first ∷ areas) ≡ areas = grind (arith, nat_tests) in rw (drops, front)
     at false later from is = let some = order.1 in let begins = (from is).0 in
         let rest = later is in
         let stays : nat_eq first.lo vma.lo ≡ false = grind (arith, nat_tests) in

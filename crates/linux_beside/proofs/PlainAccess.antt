@@ -1,30 +1,26 @@
 -- An access outside the named rows is the profile's.
 use Rattle.std.proofs.Common.{arith, sym, subst, ap, ◌∙◌}
 use Rattle.std.proofs.lemmas.Bool.Decides.{nat_tests}
-use Rattle.std.specs.Prelude.{ℕ, ◌≡◌, ◌<◌, ◌^◌, Bool, true, false, not, ◌&&◌, nat_eq, nat_le, List, [], ◌∷◌, map, Option, Some, None, Result, Ok, refl}
+use Rattle.std.specs.Prelude.{ℕ, ◌≡◌, ◌<◌, ◌^◌, Bool, true, false, not, ◌&&◌, nat_eq, nat_le, Option, Some, None, Result, Ok, refl}
 use Rattle.mm_types.specs.declared.area.Access.{Access}
-use Rattle.mm_types.specs.declared.area.Record.{Record}
 use Rattle.area_rules.specs.Accesses.{permits}
-use Rattle.area_rules.specs.Tables.{AddressSpace}
 use Rattle.linux_rules.specs.declared.area.Vma.{Vma}
 use Rattle.linux_rules.specs.declared.kernel.Kernel.{Kernel}
 use Rattle.linux_rules.specs.declared.verdict.LinuxVerdict.{LinuxVerdict}
 use Rattle.linux_rules.specs.declared.verdict.LinuxVerdict.TheVariants.{MapErr}
 use Rattle.linux_rules.specs.Areas.{find_vma}
 use Rattle.linux_rules.specs.Doing.{LinuxSpace, Did, go_on, done}
-use Rattle.linux_rules.specs.Faults.{VSYSCALL, is_not_canonical, fault, do_user_addr_fault, area_for_fault, area_verdict, or_bad_area, is_exec, is_denied}
+use Rattle.linux_rules.specs.Faults.{VSYSCALL, is_not_canonical, fault, do_user_addr_fault, area_for_fault, area_verdict, or_bad_area, is_exec, access_error}
 use Rattle.linux_rules.specs.Recorded as linux
 use Rattle.linux_rules.specs.Steps.{Answer, Signal}
-use Rattle.linux_beside.specs.Faulting.{IsPlainAccess, IsPlainArea, HasVerdictOfProfile, KeepsWhatProfileKnows, StaysInOrder, forgotten_space, is_past_end}
-use Rattle.linux_beside.specs.Forgetting.{forgotten}
-use Rattle.linux_beside.specs.InOrder.{AreInOrderFrom}
+use Rattle.linux_beside.specs.Faulting.{IsPlainAccess, IsPlainArea, HasVerdictOfProfile, KeepsWhatProfileKnows, forgotten_space, is_past_object_end}
 use Rattle.linux_beside.specs.Sides as profile
 use Rattle.linux_beside.proofs.FaultLemmas.{IsAnswered, area_answered, answers_agree, by_linux, by_profile, past_by_profile, same_past_end, served}
 use Rattle.linux_beside.proofs.OrderLemmas.{at_found, none_at_hole, none_at_end, no_stack_at_hole, no_stack_at_end}
 use Rattle.linux_beside.proofs.ProfileFaults.{at_area, at_hole}
 
 -- an access to user memory is a page fault
-fault_is : (kernel : Kernel) (space : LinuxSpace) (page : ℕ) (access : Access) → page < 2 ^ 35
+pub fault_is : (kernel : Kernel) (space : LinuxSpace) (page : ℕ) (access : Access) → page < 2 ^ 35
     → fault kernel page access space ≡ (let did = do_user_addr_fault kernel page access space in or_bad_area did.space did.result)
 unfolding fault
 fault_is kernel space page access low =
@@ -47,7 +43,7 @@ outcome kernel space page access found = let did = area_for_fault kernel page fo
     let next : Did LinuxVerdict = go_on did.space did.result (λ vma. area_verdict kernel vma page access) in or_bad_area next.space next.result
 
 -- a verdict is no bad area
-still_answered : (space : LinuxSpace) (answer : Answer) (did : Did LinuxVerdict) → IsAnswered space answer did
+pub still_answered : (space : LinuxSpace) (answer : Answer) (did : Did LinuxVerdict) → IsAnswered space answer did
     → IsAnswered space answer (or_bad_area did.space did.result)
 still_answered space answer did is = subst (λ (r : Result LinuxVerdict ℕ). IsAnswered space answer (or_bad_area did.space r)) (sym is.returns)
     (record { verdict = is.verdict; returns = refl; says = is.says; known = is.known })
@@ -64,17 +60,17 @@ alike_at kernel space page access plain None found = record {
 alike_at kernel space page access plain (Some vma) found = at (nat_le vma.lo page) vma.flags.growsdown refl refl
   where
     past : Bool
-    past = is_past_end kernel space vma page
+    past = is_past_object_end kernel space vma page
 
     agrees : (vma : Vma) → IsPlainArea kernel space page access vma
-        → by_linux (is_denied vma access) (is_past_end kernel space vma page) (is_exec access && not vma.flags.access.exec) (served vma page)
+        → by_linux (access_error vma access) (is_past_object_end kernel space vma page) (is_exec access && not vma.flags.access.exec) (served vma page)
         ≡ by_profile (permits vma.flags.access access) (past_by_profile kernel vma page) (served vma page)
-    agrees vma area = answers_agree vma.flags.access access (is_past_end kernel space vma page) (served vma page) area.exec
+    agrees vma area = answers_agree vma.flags.access access (is_past_object_end kernel space vma page) (served vma page) area.exec
         ∙ ap (λ past. by_profile (permits vma.flags.access access) past (served vma page)) (same_past_end kernel space vma page plain.files area.object)
 
     at : (begins grows : Bool) → nat_le vma.lo page ≡ begins → vma.flags.growsdown ≡ grows → IsAlike kernel space page access (outcome kernel space page access (Some vma))
     at true grows begins is = let area = plain.area vma found begins in record {
-      answer = by_linux (is_denied vma access) past (is_exec access && not vma.flags.access.exec) (served vma page);
+      answer = by_linux (access_error vma access) past (is_exec access && not vma.flags.access.exec) (served vma page);
       linux = rw begins (still_answered space _ (area_verdict kernel vma page access space) (area_answered kernel space page access vma plain.in_order found area.no_key));
       profile = at_area kernel.config (forgotten_space space) vma page access (at_found 0 page space.areas vma plain.in_order found begins)
           ∙ ap (λ a. answered_by kernel space a) (sym (agrees vma area));
@@ -94,15 +90,15 @@ alike kernel space page access plain = let is = fault_is kernel space page acces
     rw is (alike_at kernel space page access plain (find_vma space.areas page) refl)
 
 -- the answer as a trace shows it
-seen_result : (space : LinuxSpace) (answer : Answer) (did : Did LinuxVerdict) → IsAnswered space answer did
-    → (go_on did.space did.result (λ verdict. done (linux.answer_of verdict))).result ≡ Ok answer
+pub seen_result : (space : LinuxSpace) (answer : Answer) (did : Did LinuxVerdict) → IsAnswered space answer did
+    → (go_on did.space did.result (λ verdict. done (linux.verdict_shown verdict))).result ≡ Ok answer
 seen_result space answer did is =
-    subst (λ (r : Result LinuxVerdict ℕ). (go_on did.space r (λ verdict. done (linux.answer_of verdict))).result ≡ Ok answer) (sym is.returns) (ap (λ a. Ok a) is.says)
+    subst (λ (r : Result LinuxVerdict ℕ). (go_on did.space r (λ verdict. done (linux.verdict_shown verdict))).result ≡ Ok answer) (sym is.returns) (ap (λ a. Ok a) is.says)
 
-seen_space : (space : LinuxSpace) (answer : Answer) (did : Did LinuxVerdict) → IsAnswered space answer did
-    → forgotten_space (go_on did.space did.result (λ verdict. done (linux.answer_of verdict))).space ≡ forgotten_space space
+pub seen_space : (space : LinuxSpace) (answer : Answer) (did : Did LinuxVerdict) → IsAnswered space answer did
+    → forgotten_space (go_on did.space did.result (λ verdict. done (linux.verdict_shown verdict))).space ≡ forgotten_space space
 seen_space space answer did is =
-    subst (λ (r : Result LinuxVerdict ℕ). forgotten_space (go_on did.space r (λ verdict. done (linux.answer_of verdict))).space ≡ forgotten_space space) (sym is.returns) is.known
+    subst (λ (r : Result LinuxVerdict ℕ). forgotten_space (go_on did.space r (λ verdict. done (linux.verdict_shown verdict))).space ≡ forgotten_space space) (sym is.returns) is.known
 
 pub has_verdict_of_profile : HasVerdictOfProfile
 has_verdict_of_profile kernel space page access plain = let both = alike kernel space page access plain in
@@ -111,20 +107,3 @@ has_verdict_of_profile kernel space page access plain = let both = alike kernel 
 pub keeps_what_profile_knows : KeepsWhatProfileKnows
 keeps_what_profile_knows kernel space page access plain = let both = alike kernel space page access plain in
     seen_space space both.answer (fault kernel page access space) both.linux ∙ sym (ap (λ (a : profile.Answered). a.space) both.profile)
-
--- a list of which the profile knows the same has the same order
-same_order : (low : ℕ) (areas others : List Vma) → map forgotten areas ≡ map forgotten others → AreInOrderFrom low others → AreInOrderFrom low areas
-same_order low [] others same order = tt
-same_order low (first ∷ areas) [] same order = absurd (cc)
-same_order low (first ∷ areas) (other ∷ others) same order =
-    let heads : forgotten first ≡ forgotten other = cc in
-    let rest : map forgotten areas ≡ map forgotten others = cc in
-    let lo : first.lo ≡ other.lo = ap (λ (r : Record). r.span.lo) heads in
-    let hi : first.hi ≡ other.hi = ap (λ (r : Record). r.span.hi) heads in
-    let begin = order.0 in let some = order.1 in
-    (omega arith, omega arith, same_order first.hi areas others rest (subst (λ (page : ℕ). AreInOrderFrom page others) (sym hi) order.2))
-
-pub stays_in_order : StaysInOrder
-stays_in_order kernel space page access plain = let both = alike kernel space page access plain in
-    same_order 0 (go_on (fault kernel page access space).space (fault kernel page access space).result (λ verdict. done (linux.answer_of verdict))).space.areas
-    space.areas (ap (λ (s : AddressSpace). s.areas) (seen_space space both.answer (fault kernel page access space) both.linux)) plain.in_order

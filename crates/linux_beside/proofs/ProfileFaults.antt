@@ -18,7 +18,7 @@ use Rattle.linux_rules.specs.declared.area.Vma.{Vma}
 use Rattle.linux_rules.specs.declared.verdict.LinuxVerdict.TheVariants as linux_verdict
 use Rattle.linux_rules.specs.Steps.{Signal}
 use Rattle.linux_beside.specs.Forgetting.{forgotten}
-use Rattle.linux_beside.specs.Sides.{answer_of, accessed}
+use Rattle.linux_beside.specs.Sides.{verdict_answer, accessed}
 use Rattle.linux_beside.proofs.FaultLemmas.{by_profile, served, index_is}
 
 -- two pages, one of which an area has, aren't free
@@ -57,7 +57,7 @@ no_grower_above config areas page none = at (nat_le (page_of config.min) page &&
 
 -- an access that grows nothing has the verdict, and changes nothing
 plain_access : (config : Config) (space : AddressSpace) (page : ℕ) (access : Access) → grower config space.areas page ≡ None
-    → accessed config space page access ≡ record { space = space; answer = Ok (answer_of (verdict config space.areas page access)) }
+    → accessed config space page access ≡ record { space = space; answer = Ok (verdict_answer (verdict config space.areas page access)) }
 unfolding grows
 plain_access config space page access none = rw none
 
@@ -70,8 +70,8 @@ at_hole config space page access hole none = let still = no_grower_above config 
 
 -- the answer of an area's verdict
 parts : (allowed past : Bool) (area : Record) (at : ℕ)
-    → answer_of (if not allowed then AccErr else (if past then BusErr else Served area at))
-    ≡ by_profile allowed past (answer_of (Served area at))
+    → verdict_answer (if not allowed then AccErr else (if past then BusErr else Served area at))
+    ≡ by_profile allowed past (verdict_answer (Served area at))
 parts true true area at = refl
 parts true false area at = refl
 parts false past area at = refl
@@ -88,7 +88,7 @@ unfolding is_past_end index_of
 past_is config vma page = same_past (nat_eq vma.file 0) (slice_get config.files (vma.file - 1)) vma.pgoff (page - vma.lo)
 
 area_answer : (config : Config) (vma : Vma) (page : ℕ) (access : Access)
-    → answer_of (area_verdict config.files page access (forgotten vma))
+    → verdict_answer (area_verdict config.files page access (forgotten vma))
     ≡ by_profile (permits vma.flags.access access)
     (not (nat_eq vma.file 0) && option_map_or (λ file. nat_le (pages_of file.size) (vma.pgoff + (page - vma.lo))) (slice_get config.files (vma.file - 1)) false)
     (served vma page)

@@ -5,7 +5,7 @@ use Rattle.std.specs.Prelude.{ℕ, ◌≡◌, ◌<◌, ◌≤◌, ◌+◌, Bool,
 use Rattle.area_list.specs.Areas.{MappedPage, mapped_page}
 use Rattle.area_list.proofs.Pages.{page_map-nil}
 use Rattle.linux_rules.specs.declared.area.Vma.{Vma}
-use Rattle.linux_rules.specs.Areas.{vma_lookup, vmas_in, without}
+use Rattle.linux_rules.specs.Areas.{vma_lookup, vmas_in, without_vma}
 use Rattle.linux_beside.specs.Forgetting.{forgotten}
 use Rattle.linux_beside.specs.InOrder.{AreInOrderFrom}
 use Rattle.linux_beside.proofs.OrderLemmas.{from_lower, gone}
@@ -13,7 +13,7 @@ use Rattle.linux_beside.proofs.SplitLemmas.{NoneAcross, has, maps_to, maps_first
 
 -- the list without some areas
 abbrev pub removed : List Vma → List Vma → List Vma
-removed gone areas = fold (λ areas vma. without vma.lo areas) areas gone
+removed gone areas = fold (λ areas vma. without_vma vma.lo areas) areas gone
 
 -- whether an area has a page of a range
 abbrev pub lies_in : ℕ → ℕ → Vma → Bool
@@ -33,7 +33,7 @@ removed_behind : (first : Vma) (low : ℕ) (gone areas : List Vma) → first.lo 
 removed_behind first low [] areas below order = refl
 removed_behind first low (vma ∷ gone) areas below order = let begin = order.0 in let some = order.1 in
     let other : nat_eq first.lo vma.lo ≡ false = grind (arith, nat_tests) in
-    let rest = removed_behind first vma.hi gone (without vma.lo areas) (omega arith) order.2 in rw other rest
+    let rest = removed_behind first vma.hi gone (without_vma vma.lo areas) (omega arith) order.2 in rw other rest
 
 -- what a range has is removed, and nothing else
 pub removed_is : (lo hi low : ℕ) (areas : List Vma) → AreInOrderFrom low areas
@@ -46,7 +46,7 @@ removed_is lo hi low (first ∷ areas) order = case (lies_in lo hi first) (remov
         ≡ (if not inside then first ∷ filter (λ vma. not (lies_in lo hi vma)) areas else filter (λ vma. not (lies_in lo hi vma)) areas)
     case true rest = let same : nat_eq first.lo first.lo ≡ true = grind (arith, nat_tests) in
         let left = gone first.lo first.hi areas order.2 order.1 in
-        let drops : without first.lo (first ∷ areas) ≡ areas = rw same left in
+        let drops : without_vma first.lo (first ∷ areas) ≡ areas = rw same left in
         ap (λ (list : List Vma). removed (vmas_in areas lo hi) list) drops ∙ rest
     case false rest = removed_behind first first.hi (vmas_in areas lo hi) areas order.1 (filter_order (lies_in lo hi) first.hi areas order.2)
         ∙ ap (λ (list : List Vma). first ∷ list) rest

@@ -74,7 +74,7 @@ split_order low at page (first ∷ areas) vma order found above below =
         subst (λ (list : List Vma). AreInOrderFrom low list) (sym (split_later first vma page areas (omega arith) above)) (order.0, some, later is)
 
 -- the parts of an area map what it mapped
-upper_maps : (vma : Vma) (page at : ℕ) → vma.lo ≤ page → page ≤ at → mapped_page at (forgotten (upper_part vma page)) ≡ mapped_page at (forgotten vma)
+pub upper_maps : (vma : Vma) (page at : ℕ) → vma.lo ≤ page → page ≤ at → mapped_page at (forgotten (upper_part vma page)) ≡ mapped_page at (forgotten vma)
 unfolding mapped_page index_of
 upper_maps vma page at above from = ap mapped (case (nat_eq vma.file 0))
   where
@@ -86,7 +86,7 @@ upper_maps vma page at above from = ap mapped (case (nat_eq vma.file 0))
     case true = refl
     case false = omega arith
 
-lower_maps : (vma : Vma) (page at : ℕ) → mapped_page at (forgotten (lower_part vma page)) ≡ mapped_page at (forgotten vma)
+pub lower_maps : (vma : Vma) (page at : ℕ) → mapped_page at (forgotten (lower_part vma page)) ≡ mapped_page at (forgotten vma)
 unfolding mapped_page index_of
 lower_maps vma page at = refl
 

@@ -9,3 +9,5 @@ pub mod Forgetting
 pub mod InOrder
 pub mod Faulting
 pub mod Unmapping
+pub mod Ordering
+pub mod Changing

@@ -2,24 +2,24 @@
 use Rattle.std.specs.Prelude.{List, ◌∷◌, [], true, false, pos, negsuc, Some, None, Ok, Err}
 use Rattle.mm_types.specs.declared.area.Access.TheVariants.{Write}
 use Rattle.linux_rules.specs.Versions.{linux_6_1, linux_6_12, linux_6_16, linux_6_17, linux_6_18_15, linux_6_18, linux_7_2}
-use Rattle.linux_rules.specs.Steps.{Map, Protect, Remap, Break, Touch, Returned, Serves, Step, r, rw, plain, filed, step, file_row, config}
+use Rattle.linux_rules.specs.Steps.{Map, Protect, Remap, Break, Touch, Returned, Serves, Step, r, rw, plain, filed, kernel_step, file_row, config}
 use Rattle.linux_rules.specs.Recorded.{IsAsRecorded}
 use Rattle.linux_beside.specs.Sides.{IsByProfile, on_the_machine}
 
 -- border_file
 abbrev pub border_file_by_profile : List Step
 border_file_by_profile =
-    step 0 (Map 1048576 4096 r 18 (pos 3) 0) (Ok (Returned 1048576)) None
-    ∷ step 0 (Map 1052672 4096 rw 18 (pos 3) 4096) (Ok (Returned 1052672)) None
-    ∷ step 0 (Protect 1052672 4096 r) (Ok (Returned 0)) (Some (filed 256 258 r false 0 1 ∷ []))
+    kernel_step 0 (Map 1048576 4096 r 18 (pos 3) 0) (Ok (Returned 1048576)) None
+    ∷ kernel_step 0 (Map 1052672 4096 rw 18 (pos 3) 4096) (Ok (Returned 1052672)) None
+    ∷ kernel_step 0 (Protect 1052672 4096 r) (Ok (Returned 0)) (Some (filed 256 258 r false 0 1 ∷ []))
     ∷ []
 
 -- border_file
 abbrev pub border_file_by_linux : List Step
 border_file_by_linux =
-    step 0 (Map 1048576 4096 r 18 (pos 3) 0) (Ok (Returned 1048576)) None
-    ∷ step 0 (Map 1052672 4096 rw 18 (pos 3) 4096) (Ok (Returned 1052672)) None
-    ∷ step 0 (Protect 1052672 4096 r) (Ok (Returned 0)) (Some (filed 256 257 r false 0 1 ∷ filed 257 258 r false 4096 1 ∷ []))
+    kernel_step 0 (Map 1048576 4096 r 18 (pos 3) 0) (Ok (Returned 1048576)) None
+    ∷ kernel_step 0 (Map 1052672 4096 rw 18 (pos 3) 4096) (Ok (Returned 1052672)) None
+    ∷ kernel_step 0 (Protect 1052672 4096 r) (Ok (Returned 0)) (Some (filed 256 257 r false 0 1 ∷ filed 257 258 r false 4096 1 ∷ []))
     ∷ []
 
 -- border_file: what the profile answers, and Linux
@@ -36,19 +36,19 @@ pub record BorderFile : Type 0 where
 -- border_written
 abbrev pub border_written_by_profile : List Step
 border_written_by_profile =
-    step 0 (Map 1048576 4096 r 50 (negsuc 0) 0) (Ok (Returned 1048576)) None
-    ∷ step 0 (Map 1052672 4096 rw 50 (negsuc 0) 0) (Ok (Returned 1052672)) None
-    ∷ step 0 (Touch 257 Write) (Ok (Serves 257 258 rw false 0)) None
-    ∷ step 0 (Protect 1052672 4096 r) (Ok (Returned 0)) (Some (plain 256 258 r ∷ []))
+    kernel_step 0 (Map 1048576 4096 r 50 (negsuc 0) 0) (Ok (Returned 1048576)) None
+    ∷ kernel_step 0 (Map 1052672 4096 rw 50 (negsuc 0) 0) (Ok (Returned 1052672)) None
+    ∷ kernel_step 0 (Touch 257 Write) (Ok (Serves 257 258 rw false 0)) None
+    ∷ kernel_step 0 (Protect 1052672 4096 r) (Ok (Returned 0)) (Some (plain 256 258 r ∷ []))
     ∷ []
 
 -- border_written
 abbrev pub border_written_by_linux : List Step
 border_written_by_linux =
-    step 0 (Map 1048576 4096 r 50 (negsuc 0) 0) (Ok (Returned 1048576)) None
-    ∷ step 0 (Map 1052672 4096 rw 50 (negsuc 0) 0) (Ok (Returned 1052672)) None
-    ∷ step 0 (Touch 257 Write) (Ok (Serves 257 258 rw false 0)) None
-    ∷ step 0 (Protect 1052672 4096 r) (Ok (Returned 0)) (Some (plain 256 257 r ∷ plain 257 258 r ∷ []))
+    kernel_step 0 (Map 1048576 4096 r 50 (negsuc 0) 0) (Ok (Returned 1048576)) None
+    ∷ kernel_step 0 (Map 1052672 4096 rw 50 (negsuc 0) 0) (Ok (Returned 1052672)) None
+    ∷ kernel_step 0 (Touch 257 Write) (Ok (Serves 257 258 rw false 0)) None
+    ∷ kernel_step 0 (Protect 1052672 4096 r) (Ok (Returned 0)) (Some (plain 256 257 r ∷ plain 257 258 r ∷ []))
     ∷ []
 
 -- border_written: what the profile answers, and Linux
@@ -65,31 +65,31 @@ pub record BorderWritten : Type 0 where
 -- border_gap
 abbrev pub border_gap_by_profile : List Step
 border_gap_by_profile =
-    step 0 (Map 1048576 4096 rw 50 (negsuc 0) 0) (Ok (Returned 1048576)) None
-    ∷ step 0 (Map 1056768 4096 rw 50 (negsuc 0) 0) (Ok (Returned 1056768)) None
-    ∷ step 0 (Touch 256 Write) (Ok (Serves 256 257 rw false 0)) None
-    ∷ step 0 (Touch 258 Write) (Ok (Serves 258 259 rw false 0)) None
-    ∷ step 0 (Map 1052672 4096 rw 50 (negsuc 0) 0) (Ok (Returned 1052672)) (Some (plain 256 259 rw ∷ []))
+    kernel_step 0 (Map 1048576 4096 rw 50 (negsuc 0) 0) (Ok (Returned 1048576)) None
+    ∷ kernel_step 0 (Map 1056768 4096 rw 50 (negsuc 0) 0) (Ok (Returned 1056768)) None
+    ∷ kernel_step 0 (Touch 256 Write) (Ok (Serves 256 257 rw false 0)) None
+    ∷ kernel_step 0 (Touch 258 Write) (Ok (Serves 258 259 rw false 0)) None
+    ∷ kernel_step 0 (Map 1052672 4096 rw 50 (negsuc 0) 0) (Ok (Returned 1052672)) (Some (plain 256 259 rw ∷ []))
     ∷ []
 
 -- border_gap
 abbrev pub border_gap_by_linux : List Step
 border_gap_by_linux =
-    step 0 (Map 1048576 4096 rw 50 (negsuc 0) 0) (Ok (Returned 1048576)) None
-    ∷ step 0 (Map 1056768 4096 rw 50 (negsuc 0) 0) (Ok (Returned 1056768)) None
-    ∷ step 0 (Touch 256 Write) (Ok (Serves 256 257 rw false 0)) None
-    ∷ step 0 (Touch 258 Write) (Ok (Serves 258 259 rw false 0)) None
-    ∷ step 0 (Map 1052672 4096 rw 50 (negsuc 0) 0) (Ok (Returned 1052672)) (Some (plain 256 258 rw ∷ plain 258 259 rw ∷ []))
+    kernel_step 0 (Map 1048576 4096 rw 50 (negsuc 0) 0) (Ok (Returned 1048576)) None
+    ∷ kernel_step 0 (Map 1056768 4096 rw 50 (negsuc 0) 0) (Ok (Returned 1056768)) None
+    ∷ kernel_step 0 (Touch 256 Write) (Ok (Serves 256 257 rw false 0)) None
+    ∷ kernel_step 0 (Touch 258 Write) (Ok (Serves 258 259 rw false 0)) None
+    ∷ kernel_step 0 (Map 1052672 4096 rw 50 (negsuc 0) 0) (Ok (Returned 1052672)) (Some (plain 256 258 rw ∷ plain 258 259 rw ∷ []))
     ∷ []
 
 -- border_gap
 abbrev pub border_gap_by_linux_6_1 : List Step
 border_gap_by_linux_6_1 =
-    step 0 (Map 1048576 4096 rw 50 (negsuc 0) 0) (Ok (Returned 1048576)) None
-    ∷ step 0 (Map 1056768 4096 rw 50 (negsuc 0) 0) (Ok (Returned 1056768)) None
-    ∷ step 0 (Touch 256 Write) (Ok (Serves 256 257 rw false 0)) None
-    ∷ step 0 (Touch 258 Write) (Ok (Serves 258 259 rw false 0)) None
-    ∷ step 0 (Map 1052672 4096 rw 50 (negsuc 0) 0) (Ok (Returned 1052672)) (Some (plain 256 257 rw ∷ plain 257 259 rw ∷ []))
+    kernel_step 0 (Map 1048576 4096 rw 50 (negsuc 0) 0) (Ok (Returned 1048576)) None
+    ∷ kernel_step 0 (Map 1056768 4096 rw 50 (negsuc 0) 0) (Ok (Returned 1056768)) None
+    ∷ kernel_step 0 (Touch 256 Write) (Ok (Serves 256 257 rw false 0)) None
+    ∷ kernel_step 0 (Touch 258 Write) (Ok (Serves 258 259 rw false 0)) None
+    ∷ kernel_step 0 (Map 1052672 4096 rw 50 (negsuc 0) 0) (Ok (Returned 1052672)) (Some (plain 256 257 rw ∷ plain 257 259 rw ∷ []))
     ∷ []
 
 -- border_gap: what the profile answers, and Linux
@@ -106,21 +106,21 @@ pub record BorderGap : Type 0 where
 -- border_between
 abbrev pub border_between_by_profile : List Step
 border_between_by_profile =
-    step 0 (Map 1048576 12288 rw 50 (negsuc 0) 0) (Ok (Returned 1048576)) None
-    ∷ step 0 (Protect 1052672 4096 r) (Ok (Returned 0)) None
-    ∷ step 0 (Touch 256 Write) (Ok (Serves 256 257 rw false 0)) None
-    ∷ step 0 (Touch 258 Write) (Ok (Serves 258 259 rw false 0)) None
-    ∷ step 0 (Protect 1052672 4096 rw) (Ok (Returned 0)) (Some (plain 256 259 rw ∷ []))
+    kernel_step 0 (Map 1048576 12288 rw 50 (negsuc 0) 0) (Ok (Returned 1048576)) None
+    ∷ kernel_step 0 (Protect 1052672 4096 r) (Ok (Returned 0)) None
+    ∷ kernel_step 0 (Touch 256 Write) (Ok (Serves 256 257 rw false 0)) None
+    ∷ kernel_step 0 (Touch 258 Write) (Ok (Serves 258 259 rw false 0)) None
+    ∷ kernel_step 0 (Protect 1052672 4096 rw) (Ok (Returned 0)) (Some (plain 256 259 rw ∷ []))
     ∷ []
 
 -- border_between
 abbrev pub border_between_by_linux : List Step
 border_between_by_linux =
-    step 0 (Map 1048576 12288 rw 50 (negsuc 0) 0) (Ok (Returned 1048576)) None
-    ∷ step 0 (Protect 1052672 4096 r) (Ok (Returned 0)) None
-    ∷ step 0 (Touch 256 Write) (Ok (Serves 256 257 rw false 0)) None
-    ∷ step 0 (Touch 258 Write) (Ok (Serves 258 259 rw false 0)) None
-    ∷ step 0 (Protect 1052672 4096 rw) (Ok (Returned 0)) (Some (plain 256 258 rw ∷ plain 258 259 rw ∷ []))
+    kernel_step 0 (Map 1048576 12288 rw 50 (negsuc 0) 0) (Ok (Returned 1048576)) None
+    ∷ kernel_step 0 (Protect 1052672 4096 r) (Ok (Returned 0)) None
+    ∷ kernel_step 0 (Touch 256 Write) (Ok (Serves 256 257 rw false 0)) None
+    ∷ kernel_step 0 (Touch 258 Write) (Ok (Serves 258 259 rw false 0)) None
+    ∷ kernel_step 0 (Protect 1052672 4096 rw) (Ok (Returned 0)) (Some (plain 256 258 rw ∷ plain 258 259 rw ∷ []))
     ∷ []
 
 -- border_between: what the profile answers, and Linux
@@ -137,19 +137,19 @@ pub record BorderBetween : Type 0 where
 -- border_moved
 abbrev pub border_moved_by_profile : List Step
 border_moved_by_profile =
-    step 0 (Map 1048576 4096 rw 50 (negsuc 0) 0) (Ok (Returned 1048576)) None
-    ∷ step 0 (Map 2097152 4096 rw 50 (negsuc 0) 0) (Ok (Returned 2097152)) None
-    ∷ step 0 (Touch 512 Write) (Ok (Serves 512 513 rw false 0)) None
-    ∷ step 0 (Remap 2097152 4096 4096 3 1052672) (Ok (Returned 1052672)) (Some (plain 256 258 rw ∷ []))
+    kernel_step 0 (Map 1048576 4096 rw 50 (negsuc 0) 0) (Ok (Returned 1048576)) None
+    ∷ kernel_step 0 (Map 2097152 4096 rw 50 (negsuc 0) 0) (Ok (Returned 2097152)) None
+    ∷ kernel_step 0 (Touch 512 Write) (Ok (Serves 512 513 rw false 0)) None
+    ∷ kernel_step 0 (Remap 2097152 4096 4096 3 1052672) (Ok (Returned 1052672)) (Some (plain 256 258 rw ∷ []))
     ∷ []
 
 -- border_moved
 abbrev pub border_moved_by_linux : List Step
 border_moved_by_linux =
-    step 0 (Map 1048576 4096 rw 50 (negsuc 0) 0) (Ok (Returned 1048576)) None
-    ∷ step 0 (Map 2097152 4096 rw 50 (negsuc 0) 0) (Ok (Returned 2097152)) None
-    ∷ step 0 (Touch 512 Write) (Ok (Serves 512 513 rw false 0)) None
-    ∷ step 0 (Remap 2097152 4096 4096 3 1052672) (Ok (Returned 1052672)) (Some (plain 256 257 rw ∷ plain 257 258 rw ∷ []))
+    kernel_step 0 (Map 1048576 4096 rw 50 (negsuc 0) 0) (Ok (Returned 1048576)) None
+    ∷ kernel_step 0 (Map 2097152 4096 rw 50 (negsuc 0) 0) (Ok (Returned 2097152)) None
+    ∷ kernel_step 0 (Touch 512 Write) (Ok (Serves 512 513 rw false 0)) None
+    ∷ kernel_step 0 (Remap 2097152 4096 4096 3 1052672) (Ok (Returned 1052672)) (Some (plain 256 257 rw ∷ plain 257 258 rw ∷ []))
     ∷ []
 
 -- border_moved: what the profile answers, and Linux
@@ -166,15 +166,15 @@ pub record BorderMoved : Type 0 where
 -- border_stack
 abbrev pub border_stack_by_profile : List Step
 border_stack_by_profile =
-    step 0 (Map 1048576 4096 rw 50 (negsuc 0) 0) (Ok (Returned 1048576)) None
-    ∷ step 0 (Map 1052672 4096 rw 131122 (negsuc 0) 0) (Ok (Returned 1052672)) (Some (plain 256 258 rw ∷ []))
+    kernel_step 0 (Map 1048576 4096 rw 50 (negsuc 0) 0) (Ok (Returned 1048576)) None
+    ∷ kernel_step 0 (Map 1052672 4096 rw 131122 (negsuc 0) 0) (Ok (Returned 1052672)) (Some (plain 256 258 rw ∷ []))
     ∷ []
 
 -- border_stack
 abbrev pub border_stack_by_linux : List Step
 border_stack_by_linux =
-    step 0 (Map 1048576 4096 rw 50 (negsuc 0) 0) (Ok (Returned 1048576)) None
-    ∷ step 0 (Map 1052672 4096 rw 131122 (negsuc 0) 0) (Ok (Returned 1052672)) (Some (plain 256 257 rw ∷ plain 257 258 rw ∷ []))
+    kernel_step 0 (Map 1048576 4096 rw 50 (negsuc 0) 0) (Ok (Returned 1048576)) None
+    ∷ kernel_step 0 (Map 1052672 4096 rw 131122 (negsuc 0) 0) (Ok (Returned 1052672)) (Some (plain 256 257 rw ∷ plain 257 258 rw ∷ []))
     ∷ []
 
 -- border_stack: what the profile answers, and Linux
@@ -191,15 +191,15 @@ pub record BorderStack : Type 0 where
 -- border_noreserve
 abbrev pub border_noreserve_by_profile : List Step
 border_noreserve_by_profile =
-    step 0 (Map 1048576 4096 rw 50 (negsuc 0) 0) (Ok (Returned 1048576)) None
-    ∷ step 0 (Map 1052672 4096 rw 16434 (negsuc 0) 0) (Ok (Returned 1052672)) (Some (plain 256 258 rw ∷ []))
+    kernel_step 0 (Map 1048576 4096 rw 50 (negsuc 0) 0) (Ok (Returned 1048576)) None
+    ∷ kernel_step 0 (Map 1052672 4096 rw 16434 (negsuc 0) 0) (Ok (Returned 1052672)) (Some (plain 256 258 rw ∷ []))
     ∷ []
 
 -- border_noreserve
 abbrev pub border_noreserve_by_linux : List Step
 border_noreserve_by_linux =
-    step 0 (Map 1048576 4096 rw 50 (negsuc 0) 0) (Ok (Returned 1048576)) None
-    ∷ step 0 (Map 1052672 4096 rw 16434 (negsuc 0) 0) (Ok (Returned 1052672)) (Some (plain 256 257 rw ∷ plain 257 258 rw ∷ []))
+    kernel_step 0 (Map 1048576 4096 rw 50 (negsuc 0) 0) (Ok (Returned 1048576)) None
+    ∷ kernel_step 0 (Map 1052672 4096 rw 16434 (negsuc 0) 0) (Ok (Returned 1052672)) (Some (plain 256 257 rw ∷ plain 257 258 rw ∷ []))
     ∷ []
 
 -- border_noreserve: what the profile answers, and Linux
@@ -216,28 +216,28 @@ pub record BorderNoreserve : Type 0 where
 -- border_populate
 abbrev pub border_populate_by_profile : List Step
 border_populate_by_profile =
-    step 0 (Map 1048576 4096 rw 50 (negsuc 0) 0) (Ok (Returned 1048576)) None
-    ∷ step 0 (Touch 256 Write) (Ok (Serves 256 257 rw false 0)) None
-    ∷ step 0 (Map 1056768 4096 rw 32818 (negsuc 0) 0) (Ok (Returned 1056768)) None
-    ∷ step 0 (Map 1052672 4096 rw 50 (negsuc 0) 0) (Ok (Returned 1052672)) (Some (plain 256 259 rw ∷ []))
+    kernel_step 0 (Map 1048576 4096 rw 50 (negsuc 0) 0) (Ok (Returned 1048576)) None
+    ∷ kernel_step 0 (Touch 256 Write) (Ok (Serves 256 257 rw false 0)) None
+    ∷ kernel_step 0 (Map 1056768 4096 rw 32818 (negsuc 0) 0) (Ok (Returned 1056768)) None
+    ∷ kernel_step 0 (Map 1052672 4096 rw 50 (negsuc 0) 0) (Ok (Returned 1052672)) (Some (plain 256 259 rw ∷ []))
     ∷ []
 
 -- border_populate
 abbrev pub border_populate_by_linux : List Step
 border_populate_by_linux =
-    step 0 (Map 1048576 4096 rw 50 (negsuc 0) 0) (Ok (Returned 1048576)) None
-    ∷ step 0 (Touch 256 Write) (Ok (Serves 256 257 rw false 0)) None
-    ∷ step 0 (Map 1056768 4096 rw 32818 (negsuc 0) 0) (Ok (Returned 1056768)) None
-    ∷ step 0 (Map 1052672 4096 rw 50 (negsuc 0) 0) (Ok (Returned 1052672)) (Some (plain 256 258 rw ∷ plain 258 259 rw ∷ []))
+    kernel_step 0 (Map 1048576 4096 rw 50 (negsuc 0) 0) (Ok (Returned 1048576)) None
+    ∷ kernel_step 0 (Touch 256 Write) (Ok (Serves 256 257 rw false 0)) None
+    ∷ kernel_step 0 (Map 1056768 4096 rw 32818 (negsuc 0) 0) (Ok (Returned 1056768)) None
+    ∷ kernel_step 0 (Map 1052672 4096 rw 50 (negsuc 0) 0) (Ok (Returned 1052672)) (Some (plain 256 258 rw ∷ plain 258 259 rw ∷ []))
     ∷ []
 
 -- border_populate
 abbrev pub border_populate_by_linux_6_1 : List Step
 border_populate_by_linux_6_1 =
-    step 0 (Map 1048576 4096 rw 50 (negsuc 0) 0) (Ok (Returned 1048576)) None
-    ∷ step 0 (Touch 256 Write) (Ok (Serves 256 257 rw false 0)) None
-    ∷ step 0 (Map 1056768 4096 rw 32818 (negsuc 0) 0) (Ok (Returned 1056768)) None
-    ∷ step 0 (Map 1052672 4096 rw 50 (negsuc 0) 0) (Ok (Returned 1052672)) (Some (plain 256 257 rw ∷ plain 257 259 rw ∷ []))
+    kernel_step 0 (Map 1048576 4096 rw 50 (negsuc 0) 0) (Ok (Returned 1048576)) None
+    ∷ kernel_step 0 (Touch 256 Write) (Ok (Serves 256 257 rw false 0)) None
+    ∷ kernel_step 0 (Map 1056768 4096 rw 32818 (negsuc 0) 0) (Ok (Returned 1056768)) None
+    ∷ kernel_step 0 (Map 1052672 4096 rw 50 (negsuc 0) 0) (Ok (Returned 1052672)) (Some (plain 256 257 rw ∷ plain 257 259 rw ∷ []))
     ∷ []
 
 -- border_populate: what the profile answers, and Linux
@@ -254,34 +254,34 @@ pub record BorderPopulate : Type 0 where
 -- border_refused
 abbrev pub border_refused_by_profile : List Step
 border_refused_by_profile =
-    step 0 (Map 1048576 4096 rw 50 (negsuc 0) 0) (Ok (Returned 1048576)) None
-    ∷ step 0 (Map 1056768 4096 rw 50 (negsuc 0) 0) (Ok (Returned 1056768)) None
-    ∷ step 0 (Touch 256 Write) (Ok (Serves 256 257 rw false 0)) None
-    ∷ step 0 (Touch 258 Write) (Ok (Serves 258 259 rw false 0)) None
-    ∷ step 0 (Map 1052672 4096 rw 50 (negsuc 0) 0) (Ok (Returned 1052672)) None
-    ∷ step 0 (Remap 1048576 12288 16384 1 0) (Ok (Returned 1048576)) (Some (plain 256 260 rw ∷ []))
+    kernel_step 0 (Map 1048576 4096 rw 50 (negsuc 0) 0) (Ok (Returned 1048576)) None
+    ∷ kernel_step 0 (Map 1056768 4096 rw 50 (negsuc 0) 0) (Ok (Returned 1056768)) None
+    ∷ kernel_step 0 (Touch 256 Write) (Ok (Serves 256 257 rw false 0)) None
+    ∷ kernel_step 0 (Touch 258 Write) (Ok (Serves 258 259 rw false 0)) None
+    ∷ kernel_step 0 (Map 1052672 4096 rw 50 (negsuc 0) 0) (Ok (Returned 1052672)) None
+    ∷ kernel_step 0 (Remap 1048576 12288 16384 1 0) (Ok (Returned 1048576)) (Some (plain 256 260 rw ∷ []))
     ∷ []
 
 -- border_refused
 abbrev pub border_refused_by_linux : List Step
 border_refused_by_linux =
-    step 0 (Map 1048576 4096 rw 50 (negsuc 0) 0) (Ok (Returned 1048576)) None
-    ∷ step 0 (Map 1056768 4096 rw 50 (negsuc 0) 0) (Ok (Returned 1056768)) None
-    ∷ step 0 (Touch 256 Write) (Ok (Serves 256 257 rw false 0)) None
-    ∷ step 0 (Touch 258 Write) (Ok (Serves 258 259 rw false 0)) None
-    ∷ step 0 (Map 1052672 4096 rw 50 (negsuc 0) 0) (Ok (Returned 1052672)) None
-    ∷ step 0 (Remap 1048576 12288 16384 1 0) (Err 14) (Some (plain 256 258 rw ∷ plain 258 259 rw ∷ []))
+    kernel_step 0 (Map 1048576 4096 rw 50 (negsuc 0) 0) (Ok (Returned 1048576)) None
+    ∷ kernel_step 0 (Map 1056768 4096 rw 50 (negsuc 0) 0) (Ok (Returned 1056768)) None
+    ∷ kernel_step 0 (Touch 256 Write) (Ok (Serves 256 257 rw false 0)) None
+    ∷ kernel_step 0 (Touch 258 Write) (Ok (Serves 258 259 rw false 0)) None
+    ∷ kernel_step 0 (Map 1052672 4096 rw 50 (negsuc 0) 0) (Ok (Returned 1052672)) None
+    ∷ kernel_step 0 (Remap 1048576 12288 16384 1 0) (Err 14) (Some (plain 256 258 rw ∷ plain 258 259 rw ∷ []))
     ∷ []
 
 -- border_refused
 abbrev pub border_refused_by_linux_6_1 : List Step
 border_refused_by_linux_6_1 =
-    step 0 (Map 1048576 4096 rw 50 (negsuc 0) 0) (Ok (Returned 1048576)) None
-    ∷ step 0 (Map 1056768 4096 rw 50 (negsuc 0) 0) (Ok (Returned 1056768)) None
-    ∷ step 0 (Touch 256 Write) (Ok (Serves 256 257 rw false 0)) None
-    ∷ step 0 (Touch 258 Write) (Ok (Serves 258 259 rw false 0)) None
-    ∷ step 0 (Map 1052672 4096 rw 50 (negsuc 0) 0) (Ok (Returned 1052672)) None
-    ∷ step 0 (Remap 1048576 12288 16384 1 0) (Err 14) (Some (plain 256 257 rw ∷ plain 257 259 rw ∷ []))
+    kernel_step 0 (Map 1048576 4096 rw 50 (negsuc 0) 0) (Ok (Returned 1048576)) None
+    ∷ kernel_step 0 (Map 1056768 4096 rw 50 (negsuc 0) 0) (Ok (Returned 1056768)) None
+    ∷ kernel_step 0 (Touch 256 Write) (Ok (Serves 256 257 rw false 0)) None
+    ∷ kernel_step 0 (Touch 258 Write) (Ok (Serves 258 259 rw false 0)) None
+    ∷ kernel_step 0 (Map 1052672 4096 rw 50 (negsuc 0) 0) (Ok (Returned 1052672)) None
+    ∷ kernel_step 0 (Remap 1048576 12288 16384 1 0) (Err 14) (Some (plain 256 257 rw ∷ plain 257 259 rw ∷ []))
     ∷ []
 
 -- border_refused: what the profile answers, and Linux
@@ -298,15 +298,15 @@ pub record BorderRefused : Type 0 where
 -- aligned_anonymous
 abbrev pub aligned_anonymous_by_profile : List Step
 aligned_anonymous_by_profile =
-    step 0 (Map 0 4096 rw 34 (negsuc 0) 0) (Ok (Returned 140737354129408)) None
-    ∷ step 0 (Map 0 2097152 rw 34 (negsuc 0) 0) (Ok (Returned 140737352032256)) (Some (plain 34359705086 34359705599 rw ∷ []))
+    kernel_step 0 (Map 0 4096 rw 34 (negsuc 0) 0) (Ok (Returned 140737354129408)) None
+    ∷ kernel_step 0 (Map 0 2097152 rw 34 (negsuc 0) 0) (Ok (Returned 140737352032256)) (Some (plain 34359705086 34359705599 rw ∷ []))
     ∷ []
 
 -- aligned_anonymous
 abbrev pub aligned_anonymous_by_linux : List Step
 aligned_anonymous_by_linux =
-    step 0 (Map 0 4096 rw 34 (negsuc 0) 0) (Ok (Returned 140737354129408)) None
-    ∷ step 0 (Map 0 2097152 rw 34 (negsuc 0) 0) (Ok (Returned 140737349943296)) (Some (plain 34359704576 34359705088 rw ∷ plain 34359705598 34359705599 rw ∷ []))
+    kernel_step 0 (Map 0 4096 rw 34 (negsuc 0) 0) (Ok (Returned 140737354129408)) None
+    ∷ kernel_step 0 (Map 0 2097152 rw 34 (negsuc 0) 0) (Ok (Returned 140737349943296)) (Some (plain 34359704576 34359705088 rw ∷ plain 34359705598 34359705599 rw ∷ []))
     ∷ []
 
 -- aligned_anonymous: what the profile answers, and Linux
@@ -323,15 +323,15 @@ pub record AlignedAnonymous : Type 0 where
 -- aligned_file
 abbrev pub aligned_file_by_profile : List Step
 aligned_file_by_profile =
-    step 0 (Map 0 4096 rw 34 (negsuc 0) 0) (Ok (Returned 140737354129408)) None
-    ∷ step 0 (Map 0 2101248 r 2 (pos 3) 0) (Ok (Returned 140737352028160)) (Some (filed 34359705085 34359705598 r false 0 1 ∷ plain 34359705598 34359705599 rw ∷ []))
+    kernel_step 0 (Map 0 4096 rw 34 (negsuc 0) 0) (Ok (Returned 140737354129408)) None
+    ∷ kernel_step 0 (Map 0 2101248 r 2 (pos 3) 0) (Ok (Returned 140737352028160)) (Some (filed 34359705085 34359705598 r false 0 1 ∷ plain 34359705598 34359705599 rw ∷ []))
     ∷ []
 
 -- aligned_file
 abbrev pub aligned_file_by_linux : List Step
 aligned_file_by_linux =
-    step 0 (Map 0 4096 rw 34 (negsuc 0) 0) (Ok (Returned 140737354129408)) None
-    ∷ step 0 (Map 0 2101248 r 2 (pos 3) 0) (Ok (Returned 140737349943296)) (Some (filed 34359704576 34359705089 r false 0 1 ∷ plain 34359705598 34359705599 rw ∷ []))
+    kernel_step 0 (Map 0 4096 rw 34 (negsuc 0) 0) (Ok (Returned 140737354129408)) None
+    ∷ kernel_step 0 (Map 0 2101248 r 2 (pos 3) 0) (Ok (Returned 140737349943296)) (Some (filed 34359704576 34359705089 r false 0 1 ∷ plain 34359705598 34359705599 rw ∷ []))
     ∷ []
 
 -- aligned_file: what the profile answers, and Linux
@@ -348,17 +348,17 @@ pub record AlignedFile : Type 0 where
 -- aligned_file_moved
 abbrev pub aligned_file_moved_by_profile : List Step
 aligned_file_moved_by_profile =
-    step 0 (Map 1048576 2097152 r 18 (pos 3) 0) (Ok (Returned 1048576)) None
-    ∷ step 0 (Map 3145728 4096 r 50 (negsuc 0) 0) (Ok (Returned 3145728)) None
-    ∷ step 0 (Remap 1048576 2097152 2101248 1 0) (Ok (Returned 140737352032256)) (Some (plain 768 769 r ∷ filed 34359705086 34359705599 r false 0 1 ∷ []))
+    kernel_step 0 (Map 1048576 2097152 r 18 (pos 3) 0) (Ok (Returned 1048576)) None
+    ∷ kernel_step 0 (Map 3145728 4096 r 50 (negsuc 0) 0) (Ok (Returned 3145728)) None
+    ∷ kernel_step 0 (Remap 1048576 2097152 2101248 1 0) (Ok (Returned 140737352032256)) (Some (plain 768 769 r ∷ filed 34359705086 34359705599 r false 0 1 ∷ []))
     ∷ []
 
 -- aligned_file_moved
 abbrev pub aligned_file_moved_by_linux : List Step
 aligned_file_moved_by_linux =
-    step 0 (Map 1048576 2097152 r 18 (pos 3) 0) (Ok (Returned 1048576)) None
-    ∷ step 0 (Map 3145728 4096 r 50 (negsuc 0) 0) (Ok (Returned 3145728)) None
-    ∷ step 0 (Remap 1048576 2097152 2101248 1 0) (Ok (Returned 140737349943296)) (Some (plain 768 769 r ∷ filed 34359704576 34359705089 r false 0 1 ∷ []))
+    kernel_step 0 (Map 1048576 2097152 r 18 (pos 3) 0) (Ok (Returned 1048576)) None
+    ∷ kernel_step 0 (Map 3145728 4096 r 50 (negsuc 0) 0) (Ok (Returned 3145728)) None
+    ∷ kernel_step 0 (Remap 1048576 2097152 2101248 1 0) (Ok (Returned 140737349943296)) (Some (plain 768 769 r ∷ filed 34359704576 34359705089 r false 0 1 ∷ []))
     ∷ []
 
 -- aligned_file_moved: what the profile answers, and Linux
@@ -375,19 +375,19 @@ pub record AlignedFileMoved : Type 0 where
 -- aligned_moved
 abbrev pub aligned_moved_by_profile : List Step
 aligned_moved_by_profile =
-    step 0 (Map 1048576 4096 rw 50 (negsuc 0) 0) (Ok (Returned 1048576)) None
-    ∷ step 0 (Map 1052672 4096 r 50 (negsuc 0) 0) (Ok (Returned 1052672)) None
-    ∷ step 0 (Map 0 4096 rw 34 (negsuc 0) 0) (Ok (Returned 140737354129408)) None
-    ∷ step 0 (Remap 1048576 4096 2097152 1 0) (Ok (Returned 140737352032256)) (Some (plain 257 258 r ∷ plain 34359705086 34359705599 rw ∷ []))
+    kernel_step 0 (Map 1048576 4096 rw 50 (negsuc 0) 0) (Ok (Returned 1048576)) None
+    ∷ kernel_step 0 (Map 1052672 4096 r 50 (negsuc 0) 0) (Ok (Returned 1052672)) None
+    ∷ kernel_step 0 (Map 0 4096 rw 34 (negsuc 0) 0) (Ok (Returned 140737354129408)) None
+    ∷ kernel_step 0 (Remap 1048576 4096 2097152 1 0) (Ok (Returned 140737352032256)) (Some (plain 257 258 r ∷ plain 34359705086 34359705599 rw ∷ []))
     ∷ []
 
 -- aligned_moved
 abbrev pub aligned_moved_by_linux : List Step
 aligned_moved_by_linux =
-    step 0 (Map 1048576 4096 rw 50 (negsuc 0) 0) (Ok (Returned 1048576)) None
-    ∷ step 0 (Map 1052672 4096 r 50 (negsuc 0) 0) (Ok (Returned 1052672)) None
-    ∷ step 0 (Map 0 4096 rw 34 (negsuc 0) 0) (Ok (Returned 140737354129408)) None
-    ∷ step 0 (Remap 1048576 4096 2097152 1 0) (Ok (Returned 140737349943296)) (Some (plain 257 258 r ∷ plain 34359704576 34359705088 rw ∷ plain 34359705598 34359705599 rw ∷ []))
+    kernel_step 0 (Map 1048576 4096 rw 50 (negsuc 0) 0) (Ok (Returned 1048576)) None
+    ∷ kernel_step 0 (Map 1052672 4096 r 50 (negsuc 0) 0) (Ok (Returned 1052672)) None
+    ∷ kernel_step 0 (Map 0 4096 rw 34 (negsuc 0) 0) (Ok (Returned 140737354129408)) None
+    ∷ kernel_step 0 (Remap 1048576 4096 2097152 1 0) (Ok (Returned 140737349943296)) (Some (plain 257 258 r ∷ plain 34359704576 34359705088 rw ∷ plain 34359705598 34359705599 rw ∷ []))
     ∷ []
 
 -- aligned_moved: what the profile answers, and Linux
@@ -404,7 +404,7 @@ pub record AlignedMoved : Type 0 where
 -- overcommit
 abbrev pub overcommit_by_linux : List Step
 overcommit_by_linux =
-    step 0 (Map 0 17592186044416 rw 34 (negsuc 0) 0) (Err 12) (Some ([]))
+    kernel_step 0 (Map 0 17592186044416 rw 34 (negsuc 0) 0) (Err 12) (Some ([]))
     ∷ []
 
 -- overcommit: what the profile answers, and Linux
@@ -420,15 +420,15 @@ pub record Overcommit : Type 0 where
 -- overcommit_mprotect
 abbrev pub overcommit_mprotect_by_linux : List Step
 overcommit_mprotect_by_linux =
-    step 0 (Map 0 17592186044416 r 34 (negsuc 0) 0) (Ok (Returned 123145165996032)) None
-    ∷ step 0 (Protect 123145168089088 17592186044416 rw) (Err 12) (Some (plain 30064737792 34359705088 r ∷ []))
+    kernel_step 0 (Map 0 17592186044416 r 34 (negsuc 0) 0) (Ok (Returned 123145165996032)) None
+    ∷ kernel_step 0 (Protect 123145168089088 17592186044416 rw) (Err 12) (Some (plain 30064737792 34359705088 r ∷ []))
     ∷ []
 
 -- overcommit_mprotect
 abbrev pub overcommit_mprotect_by_linux_6_1 : List Step
 overcommit_mprotect_by_linux_6_1 =
-    step 0 (Map 0 17592186044416 r 34 (negsuc 0) 0) (Ok (Returned 123145168089088)) None
-    ∷ step 0 (Protect 123145168089088 17592186044416 rw) (Err 12) (Some (plain 30064738303 34359705599 r ∷ []))
+    kernel_step 0 (Map 0 17592186044416 r 34 (negsuc 0) 0) (Ok (Returned 123145168089088)) None
+    ∷ kernel_step 0 (Protect 123145168089088 17592186044416 rw) (Err 12) (Some (plain 30064738303 34359705599 r ∷ []))
     ∷ []
 
 -- overcommit_mprotect: what the profile answers, and Linux
@@ -444,7 +444,7 @@ pub record OvercommitMprotect : Type 0 where
 -- overcommit_brk
 abbrev pub overcommit_brk_by_linux : List Step
 overcommit_brk_by_linux =
-    step 0 (Break 70368745226240) (Ok (Returned 1048576)) (Some ([]))
+    kernel_step 0 (Break 70368745226240) (Ok (Returned 1048576)) (Some ([]))
     ∷ []
 
 -- overcommit_brk: what the profile answers, and Linux

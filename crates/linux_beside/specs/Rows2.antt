@@ -1,20 +1,20 @@
 -- Rows of docs/KERNEL.md. Made by dev/make-linux-rules from examples/kernel-rows.txt.
 use Rattle.std.specs.Prelude.{List, ◌∷◌, [], true, false, pos, negsuc, Some, None, Ok, Err}
 use Rattle.linux_rules.specs.Versions.{linux_6_1, linux_6_12, linux_6_16, linux_6_17, linux_6_18_15, linux_6_18, linux_7_2}
-use Rattle.linux_rules.specs.Steps.{Map, Remap, Returned, Step, r, rw, plain, filed, step, file_row, config}
+use Rattle.linux_rules.specs.Steps.{Map, Remap, Returned, Step, r, rw, plain, filed, kernel_step, file_row, config}
 use Rattle.linux_rules.specs.Recorded.{IsAsRecorded}
 use Rattle.linux_beside.specs.Sides.{IsByProfile, on_the_machine}
 
 -- below_min
 abbrev pub below_min_by_profile : List Step
 below_min_by_profile =
-    step 0 (Map 32768 4096 r 50 (negsuc 0) 0) (Err 1) (Some ([]))
+    kernel_step 0 (Map 32768 4096 r 50 (negsuc 0) 0) (Err 1) (Some ([]))
     ∷ []
 
 -- below_min
 abbrev pub below_min_by_linux : List Step
 below_min_by_linux =
-    step 0 (Map 32768 4096 r 50 (negsuc 0) 0) (Ok (Returned 32768)) (Some (plain 8 9 r ∷ []))
+    kernel_step 0 (Map 32768 4096 r 50 (negsuc 0) 0) (Ok (Returned 32768)) (Some (plain 8 9 r ∷ []))
     ∷ []
 
 -- below_min: what the profile answers, and Linux
@@ -31,15 +31,15 @@ pub record BelowMin : Type 0 where
 -- hint_min
 abbrev pub hint_min_by_profile : List Step
 hint_min_by_profile =
-    step 0 (Map 57344 4096 r 34 (negsuc 0) 0) (Ok (Returned 57344)) None
-    ∷ step 0 (Map 57344 4096 rw 50 (negsuc 0) 0) (Ok (Returned 57344)) (Some (plain 14 15 rw ∷ []))
+    kernel_step 0 (Map 57344 4096 r 34 (negsuc 0) 0) (Ok (Returned 57344)) None
+    ∷ kernel_step 0 (Map 57344 4096 rw 50 (negsuc 0) 0) (Ok (Returned 57344)) (Some (plain 14 15 rw ∷ []))
     ∷ []
 
 -- hint_min
 abbrev pub hint_min_by_linux : List Step
 hint_min_by_linux =
-    step 0 (Map 57344 4096 r 34 (negsuc 0) 0) (Ok (Returned 65536)) None
-    ∷ step 0 (Map 57344 4096 rw 50 (negsuc 0) 0) (Ok (Returned 57344)) (Some (plain 14 15 rw ∷ plain 16 17 r ∷ []))
+    kernel_step 0 (Map 57344 4096 r 34 (negsuc 0) 0) (Ok (Returned 65536)) None
+    ∷ kernel_step 0 (Map 57344 4096 rw 50 (negsuc 0) 0) (Ok (Returned 57344)) (Some (plain 14 15 rw ∷ plain 16 17 r ∷ []))
     ∷ []
 
 -- hint_min: what the profile answers, and Linux
@@ -56,15 +56,15 @@ pub record HintMin : Type 0 where
 -- near_end
 abbrev pub near_end_by_profile : List Step
 near_end_by_profile =
-    step 0 (Map 18446744073709551615 4096 r 50 (negsuc 0) 0) (Err 22) None
-    ∷ step 0 (Map 18446744073709547528 4096 r 50 (negsuc 0) 0) (Err 22) (Some ([]))
+    kernel_step 0 (Map 18446744073709551615 4096 r 50 (negsuc 0) 0) (Err 22) None
+    ∷ kernel_step 0 (Map 18446744073709547528 4096 r 50 (negsuc 0) 0) (Err 22) (Some ([]))
     ∷ []
 
 -- near_end
 abbrev pub near_end_by_linux : List Step
 near_end_by_linux =
-    step 0 (Map 18446744073709551615 4096 r 50 (negsuc 0) 0) (Err 1) None
-    ∷ step 0 (Map 18446744073709547528 4096 r 50 (negsuc 0) 0) (Err 4088) (Some ([]))
+    kernel_step 0 (Map 18446744073709551615 4096 r 50 (negsuc 0) 0) (Err 1) None
+    ∷ kernel_step 0 (Map 18446744073709547528 4096 r 50 (negsuc 0) 0) (Err 4088) (Some ([]))
     ∷ []
 
 -- near_end: what the profile answers, and Linux
@@ -81,13 +81,13 @@ pub record NearEnd : Type 0 where
 -- shared_validate
 abbrev pub shared_validate_by_profile : List Step
 shared_validate_by_profile =
-    step 0 (Map 1048576 4096 r 19 (pos 3) 0) (Err 22) (Some ([]))
+    kernel_step 0 (Map 1048576 4096 r 19 (pos 3) 0) (Err 22) (Some ([]))
     ∷ []
 
 -- shared_validate
 abbrev pub shared_validate_by_linux : List Step
 shared_validate_by_linux =
-    step 0 (Map 1048576 4096 r 19 (pos 3) 0) (Ok (Returned 1048576)) (Some (filed 256 257 r true 0 1 ∷ []))
+    kernel_step 0 (Map 1048576 4096 r 19 (pos 3) 0) (Ok (Returned 1048576)) (Some (filed 256 257 r true 0 1 ∷ []))
     ∷ []
 
 -- shared_validate: what the profile answers, and Linux
@@ -104,13 +104,13 @@ pub record SharedValidate : Type 0 where
 -- shared_validate_noreplace
 abbrev pub shared_validate_noreplace_by_profile : List Step
 shared_validate_noreplace_by_profile =
-    step 0 (Map 1048576 4096 r 1048579 (pos 3) 0) (Err 22) (Some ([]))
+    kernel_step 0 (Map 1048576 4096 r 1048579 (pos 3) 0) (Err 22) (Some ([]))
     ∷ []
 
 -- shared_validate_noreplace
 abbrev pub shared_validate_noreplace_by_linux : List Step
 shared_validate_noreplace_by_linux =
-    step 0 (Map 1048576 4096 r 1048579 (pos 3) 0) (Err 95) (Some ([]))
+    kernel_step 0 (Map 1048576 4096 r 1048579 (pos 3) 0) (Err 95) (Some ([]))
     ∷ []
 
 -- shared_validate_noreplace: what the profile answers, and Linux
@@ -127,15 +127,15 @@ pub record SharedValidateNoreplace : Type 0 where
 -- mremap_too_long
 abbrev pub mremap_too_long_by_linux : List Step
 mremap_too_long_by_linux =
-    step 0 (Map 1048576 4096 rw 50 (negsuc 0) 0) (Ok (Returned 1048576)) None
-    ∷ step 0 (Remap 1048576 4096 140737488355328 1 0) (Err 22) (Some (plain 256 257 rw ∷ []))
+    kernel_step 0 (Map 1048576 4096 rw 50 (negsuc 0) 0) (Ok (Returned 1048576)) None
+    ∷ kernel_step 0 (Remap 1048576 4096 140737488355328 1 0) (Err 22) (Some (plain 256 257 rw ∷ []))
     ∷ []
 
 -- mremap_too_long
 abbrev pub mremap_too_long_by_linux_6_1 : List Step
 mremap_too_long_by_linux_6_1 =
-    step 0 (Map 1048576 4096 rw 50 (negsuc 0) 0) (Ok (Returned 1048576)) None
-    ∷ step 0 (Remap 1048576 4096 140737488355328 1 0) (Err 12) (Some (plain 256 257 rw ∷ []))
+    kernel_step 0 (Map 1048576 4096 rw 50 (negsuc 0) 0) (Ok (Returned 1048576)) None
+    ∷ kernel_step 0 (Remap 1048576 4096 140737488355328 1 0) (Err 12) (Some (plain 256 257 rw ∷ []))
     ∷ []
 
 -- mremap_too_long: what the profile answers, and Linux
@@ -151,15 +151,15 @@ pub record MremapTooLong : Type 0 where
 -- mremap_object_end
 abbrev pub mremap_object_end_by_profile : List Step
 mremap_object_end_by_profile =
-    step 0 (Map 1048576 4096 r 18 (pos 3) 9223372036854767616) (Ok (Returned 1048576)) None
-    ∷ step 0 (Remap 1048576 4096 8192 0 0) (Err 22) (Some (filed 256 257 r false 9223372036854767616 1 ∷ []))
+    kernel_step 0 (Map 1048576 4096 r 18 (pos 3) 9223372036854767616) (Ok (Returned 1048576)) None
+    ∷ kernel_step 0 (Remap 1048576 4096 8192 0 0) (Err 22) (Some (filed 256 257 r false 9223372036854767616 1 ∷ []))
     ∷ []
 
 -- mremap_object_end
 abbrev pub mremap_object_end_by_linux : List Step
 mremap_object_end_by_linux =
-    step 0 (Map 1048576 4096 r 18 (pos 3) 9223372036854767616) (Ok (Returned 1048576)) None
-    ∷ step 0 (Remap 1048576 4096 8192 0 0) (Ok (Returned 1048576)) (Some (filed 256 258 r false 9223372036854767616 1 ∷ []))
+    kernel_step 0 (Map 1048576 4096 r 18 (pos 3) 9223372036854767616) (Ok (Returned 1048576)) None
+    ∷ kernel_step 0 (Remap 1048576 4096 8192 0 0) (Ok (Returned 1048576)) (Some (filed 256 258 r false 9223372036854767616 1 ∷ []))
     ∷ []
 
 -- mremap_object_end: what the profile answers, and Linux
@@ -176,15 +176,15 @@ pub record MremapObjectEnd : Type 0 where
 -- mremap_dontunmap
 abbrev pub mremap_dontunmap_by_profile : List Step
 mremap_dontunmap_by_profile =
-    step 0 (Map 1048576 4096 rw 50 (negsuc 0) 0) (Ok (Returned 1048576)) None
-    ∷ step 0 (Remap 1048576 4096 4096 5 0) (Err 22) (Some (plain 256 257 rw ∷ []))
+    kernel_step 0 (Map 1048576 4096 rw 50 (negsuc 0) 0) (Ok (Returned 1048576)) None
+    ∷ kernel_step 0 (Remap 1048576 4096 4096 5 0) (Err 22) (Some (plain 256 257 rw ∷ []))
     ∷ []
 
 -- mremap_dontunmap
 abbrev pub mremap_dontunmap_by_linux : List Step
 mremap_dontunmap_by_linux =
-    step 0 (Map 1048576 4096 rw 50 (negsuc 0) 0) (Ok (Returned 1048576)) None
-    ∷ step 0 (Remap 1048576 4096 4096 5 0) (Ok (Returned 140737354129408)) (Some (plain 256 257 rw ∷ plain 34359705598 34359705599 rw ∷ []))
+    kernel_step 0 (Map 1048576 4096 rw 50 (negsuc 0) 0) (Ok (Returned 1048576)) None
+    ∷ kernel_step 0 (Remap 1048576 4096 4096 5 0) (Ok (Returned 140737354129408)) (Some (plain 256 257 rw ∷ plain 34359705598 34359705599 rw ∷ []))
     ∷ []
 
 -- mremap_dontunmap: what the profile answers, and Linux
@@ -201,15 +201,15 @@ pub record MremapDontunmap : Type 0 where
 -- mremap_old_zero
 abbrev pub mremap_old_zero_by_profile : List Step
 mremap_old_zero_by_profile =
-    step 0 (Map 1048576 4096 rw 49 (negsuc 0) 0) (Ok (Returned 1048576)) None
-    ∷ step 0 (Remap 1048576 0 4096 1 0) (Err 22) (Some (filed 256 257 rw true 0 1 ∷ []))
+    kernel_step 0 (Map 1048576 4096 rw 49 (negsuc 0) 0) (Ok (Returned 1048576)) None
+    ∷ kernel_step 0 (Remap 1048576 0 4096 1 0) (Err 22) (Some (filed 256 257 rw true 0 1 ∷ []))
     ∷ []
 
 -- mremap_old_zero
 abbrev pub mremap_old_zero_by_linux : List Step
 mremap_old_zero_by_linux =
-    step 0 (Map 1048576 4096 rw 49 (negsuc 0) 0) (Ok (Returned 1048576)) None
-    ∷ step 0 (Remap 1048576 0 4096 1 0) (Ok (Returned 140737354129408)) (Some (filed 256 257 rw true 0 1 ∷ filed 34359705598 34359705599 rw true 0 1 ∷ []))
+    kernel_step 0 (Map 1048576 4096 rw 49 (negsuc 0) 0) (Ok (Returned 1048576)) None
+    ∷ kernel_step 0 (Remap 1048576 0 4096 1 0) (Ok (Returned 140737354129408)) (Some (filed 256 257 rw true 0 1 ∷ filed 34359705598 34359705599 rw true 0 1 ∷ []))
     ∷ []
 
 -- mremap_old_zero: what the profile answers, and Linux
@@ -226,15 +226,15 @@ pub record MremapOldZero : Type 0 where
 -- mremap_old_wraps
 abbrev pub mremap_old_wraps_by_profile : List Step
 mremap_old_wraps_by_profile =
-    step 0 (Map 1048576 4096 rw 49 (negsuc 0) 0) (Ok (Returned 1048576)) None
-    ∷ step 0 (Remap 1048576 18446744073709551615 4096 1 0) (Err 14) (Some (filed 256 257 rw true 0 1 ∷ []))
+    kernel_step 0 (Map 1048576 4096 rw 49 (negsuc 0) 0) (Ok (Returned 1048576)) None
+    ∷ kernel_step 0 (Remap 1048576 18446744073709551615 4096 1 0) (Err 14) (Some (filed 256 257 rw true 0 1 ∷ []))
     ∷ []
 
 -- mremap_old_wraps
 abbrev pub mremap_old_wraps_by_linux : List Step
 mremap_old_wraps_by_linux =
-    step 0 (Map 1048576 4096 rw 49 (negsuc 0) 0) (Ok (Returned 1048576)) None
-    ∷ step 0 (Remap 1048576 18446744073709551615 4096 1 0) (Ok (Returned 140737354129408)) (Some (filed 256 257 rw true 0 1 ∷ filed 34359705598 34359705599 rw true 0 1 ∷ []))
+    kernel_step 0 (Map 1048576 4096 rw 49 (negsuc 0) 0) (Ok (Returned 1048576)) None
+    ∷ kernel_step 0 (Remap 1048576 18446744073709551615 4096 1 0) (Ok (Returned 140737354129408)) (Some (filed 256 257 rw true 0 1 ∷ filed 34359705598 34359705599 rw true 0 1 ∷ []))
     ∷ []
 
 -- mremap_old_wraps: what the profile answers, and Linux
@@ -251,15 +251,15 @@ pub record MremapOldWraps : Type 0 where
 -- mremap_past_limit
 abbrev pub mremap_past_limit_by_profile : List Step
 mremap_past_limit_by_profile =
-    step 0 (Map 140737488347136 4096 rw 50 (negsuc 0) 0) (Ok (Returned 140737488347136)) None
-    ∷ step 0 (Remap 140737488347136 8192 8192 0 0) (Err 14) (Some (plain 34359738366 34359738367 rw ∷ []))
+    kernel_step 0 (Map 140737488347136 4096 rw 50 (negsuc 0) 0) (Ok (Returned 140737488347136)) None
+    ∷ kernel_step 0 (Remap 140737488347136 8192 8192 0 0) (Err 14) (Some (plain 34359738366 34359738367 rw ∷ []))
     ∷ []
 
 -- mremap_past_limit
 abbrev pub mremap_past_limit_by_linux : List Step
 mremap_past_limit_by_linux =
-    step 0 (Map 140737488347136 4096 rw 50 (negsuc 0) 0) (Ok (Returned 140737488347136)) None
-    ∷ step 0 (Remap 140737488347136 8192 8192 0 0) (Ok (Returned 140737488347136)) (Some (plain 34359738366 34359738367 rw ∷ []))
+    kernel_step 0 (Map 140737488347136 4096 rw 50 (negsuc 0) 0) (Ok (Returned 140737488347136)) None
+    ∷ kernel_step 0 (Remap 140737488347136 8192 8192 0 0) (Ok (Returned 140737488347136)) (Some (plain 34359738366 34359738367 rw ∷ []))
     ∷ []
 
 -- mremap_past_limit: what the profile answers, and Linux
@@ -276,15 +276,15 @@ pub record MremapPastLimit : Type 0 where
 -- mremap_past_limit_shrinks
 abbrev pub mremap_past_limit_shrinks_by_profile : List Step
 mremap_past_limit_shrinks_by_profile =
-    step 0 (Map 140737488347136 4096 rw 50 (negsuc 0) 0) (Ok (Returned 140737488347136)) None
-    ∷ step 0 (Remap 140737488347136 8192 4096 0 0) (Err 14) (Some (plain 34359738366 34359738367 rw ∷ []))
+    kernel_step 0 (Map 140737488347136 4096 rw 50 (negsuc 0) 0) (Ok (Returned 140737488347136)) None
+    ∷ kernel_step 0 (Remap 140737488347136 8192 4096 0 0) (Err 14) (Some (plain 34359738366 34359738367 rw ∷ []))
     ∷ []
 
 -- mremap_past_limit_shrinks
 abbrev pub mremap_past_limit_shrinks_by_linux : List Step
 mremap_past_limit_shrinks_by_linux =
-    step 0 (Map 140737488347136 4096 rw 50 (negsuc 0) 0) (Ok (Returned 140737488347136)) None
-    ∷ step 0 (Remap 140737488347136 8192 4096 0 0) (Err 22) (Some (plain 34359738366 34359738367 rw ∷ []))
+    kernel_step 0 (Map 140737488347136 4096 rw 50 (negsuc 0) 0) (Ok (Returned 140737488347136)) None
+    ∷ kernel_step 0 (Remap 140737488347136 8192 4096 0 0) (Err 22) (Some (plain 34359738366 34359738367 rw ∷ []))
     ∷ []
 
 -- mremap_past_limit_shrinks: what the profile answers, and Linux
@@ -301,17 +301,17 @@ pub record MremapPastLimitShrinks : Type 0 where
 -- mremap_several
 abbrev pub mremap_several_by_profile : List Step
 mremap_several_by_profile =
-    step 0 (Map 1048576 4096 rw 50 (negsuc 0) 0) (Ok (Returned 1048576)) None
-    ∷ step 0 (Map 1052672 4096 r 50 (negsuc 0) 0) (Ok (Returned 1052672)) None
-    ∷ step 0 (Remap 1048576 8192 8192 3 2097152) (Err 14) (Some (plain 256 257 rw ∷ plain 257 258 r ∷ []))
+    kernel_step 0 (Map 1048576 4096 rw 50 (negsuc 0) 0) (Ok (Returned 1048576)) None
+    ∷ kernel_step 0 (Map 1052672 4096 r 50 (negsuc 0) 0) (Ok (Returned 1052672)) None
+    ∷ kernel_step 0 (Remap 1048576 8192 8192 3 2097152) (Err 14) (Some (plain 256 257 rw ∷ plain 257 258 r ∷ []))
     ∷ []
 
 -- mremap_several
 abbrev pub mremap_several_by_linux : List Step
 mremap_several_by_linux =
-    step 0 (Map 1048576 4096 rw 50 (negsuc 0) 0) (Ok (Returned 1048576)) None
-    ∷ step 0 (Map 1052672 4096 r 50 (negsuc 0) 0) (Ok (Returned 1052672)) None
-    ∷ step 0 (Remap 1048576 8192 8192 3 2097152) (Ok (Returned 2097152)) (Some (plain 512 513 rw ∷ plain 513 514 r ∷ []))
+    kernel_step 0 (Map 1048576 4096 rw 50 (negsuc 0) 0) (Ok (Returned 1048576)) None
+    ∷ kernel_step 0 (Map 1052672 4096 r 50 (negsuc 0) 0) (Ok (Returned 1052672)) None
+    ∷ kernel_step 0 (Remap 1048576 8192 8192 3 2097152) (Ok (Returned 2097152)) (Some (plain 512 513 rw ∷ plain 513 514 r ∷ []))
     ∷ []
 
 -- mremap_several: what the profile answers, and Linux
@@ -328,15 +328,15 @@ pub record MremapSeveral : Type 0 where
 -- mremap_cut_first
 abbrev pub mremap_cut_first_by_profile : List Step
 mremap_cut_first_by_profile =
-    step 0 (Map 1048576 8192 rw 50 (negsuc 0) 0) (Ok (Returned 1048576)) None
-    ∷ step 0 (Remap 1048576 8192 4096 3 0) (Err 1) (Some (plain 256 258 rw ∷ []))
+    kernel_step 0 (Map 1048576 8192 rw 50 (negsuc 0) 0) (Ok (Returned 1048576)) None
+    ∷ kernel_step 0 (Remap 1048576 8192 4096 3 0) (Err 1) (Some (plain 256 258 rw ∷ []))
     ∷ []
 
 -- mremap_cut_first
 abbrev pub mremap_cut_first_by_linux : List Step
 mremap_cut_first_by_linux =
-    step 0 (Map 1048576 8192 rw 50 (negsuc 0) 0) (Ok (Returned 1048576)) None
-    ∷ step 0 (Remap 1048576 8192 4096 3 0) (Err 1) (Some (plain 256 257 rw ∷ []))
+    kernel_step 0 (Map 1048576 8192 rw 50 (negsuc 0) 0) (Ok (Returned 1048576)) None
+    ∷ kernel_step 0 (Remap 1048576 8192 4096 3 0) (Err 1) (Some (plain 256 257 rw ∷ []))
     ∷ []
 
 -- mremap_cut_first: what the profile answers, and Linux
@@ -353,15 +353,15 @@ pub record MremapCutFirst : Type 0 where
 -- error_noreplace_access
 abbrev pub error_noreplace_access_by_profile : List Step
 error_noreplace_access_by_profile =
-    step 0 (Map 1048576 4096 rw 50 (negsuc 0) 0) (Ok (Returned 1048576)) None
-    ∷ step 0 (Map 1048576 4096 r 1048578 (pos 3) 0) (Err 13) (Some (plain 256 257 rw ∷ []))
+    kernel_step 0 (Map 1048576 4096 rw 50 (negsuc 0) 0) (Ok (Returned 1048576)) None
+    ∷ kernel_step 0 (Map 1048576 4096 r 1048578 (pos 3) 0) (Err 13) (Some (plain 256 257 rw ∷ []))
     ∷ []
 
 -- error_noreplace_access
 abbrev pub error_noreplace_access_by_linux : List Step
 error_noreplace_access_by_linux =
-    step 0 (Map 1048576 4096 rw 50 (negsuc 0) 0) (Ok (Returned 1048576)) None
-    ∷ step 0 (Map 1048576 4096 r 1048578 (pos 3) 0) (Err 17) (Some (plain 256 257 rw ∷ []))
+    kernel_step 0 (Map 1048576 4096 rw 50 (negsuc 0) 0) (Ok (Returned 1048576)) None
+    ∷ kernel_step 0 (Map 1048576 4096 r 1048578 (pos 3) 0) (Err 17) (Some (plain 256 257 rw ∷ []))
     ∷ []
 
 -- error_noreplace_access: what the profile answers, and Linux
@@ -378,13 +378,13 @@ pub record ErrorNoreplaceAccess : Type 0 where
 -- error_unshared_limit
 abbrev pub error_unshared_limit_by_profile : List Step
 error_unshared_limit_by_profile =
-    step 0 (Map 140737488351232 4096 r 48 (negsuc 0) 0) (Err 22) (Some ([]))
+    kernel_step 0 (Map 140737488351232 4096 r 48 (negsuc 0) 0) (Err 22) (Some ([]))
     ∷ []
 
 -- error_unshared_limit
 abbrev pub error_unshared_limit_by_linux : List Step
 error_unshared_limit_by_linux =
-    step 0 (Map 140737488351232 4096 r 48 (negsuc 0) 0) (Err 12) (Some ([]))
+    kernel_step 0 (Map 140737488351232 4096 r 48 (negsuc 0) 0) (Err 12) (Some ([]))
     ∷ []
 
 -- error_unshared_limit: what the profile answers, and Linux

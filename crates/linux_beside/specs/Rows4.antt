@@ -3,22 +3,22 @@ use Rattle.std.specs.Prelude.{List, ◌∷◌, [], true, false, pos, negsuc, Som
 use Rattle.mm_types.specs.declared.area.Access.TheVariants.{Read, Write, Exec}
 use Rattle.linux_rules.specs.declared.verdict.LinuxVerdict.TheVariants.{MapErr, AccErr, PkuErr, BusErr, NotCanonical}
 use Rattle.linux_rules.specs.Versions.{linux_6_1, linux_6_12, linux_6_16, linux_6_17, linux_6_18_15, linux_6_18, linux_7_2}
-use Rattle.linux_rules.specs.Steps.{Map, Remap, Touch, Returned, Serves, Signal, Step, none, r, x, rw, plain, filed, step, file_row, config}
+use Rattle.linux_rules.specs.Steps.{Map, Remap, Touch, Returned, Serves, Signal, Step, none, r, x, rw, plain, filed, kernel_step, file_row, config}
 use Rattle.linux_rules.specs.Recorded.{IsAsRecorded}
 use Rattle.linux_beside.specs.Sides.{IsByProfile, on_the_machine}
 
 -- fault_exec_only_write
 abbrev pub fault_exec_only_write_by_profile : List Step
 fault_exec_only_write_by_profile =
-    step 0 (Map 1048576 4096 x 50 (negsuc 0) 0) (Ok (Returned 1048576)) None
-    ∷ step 0 (Touch 256 Write) (Ok (Signal AccErr)) (Some (plain 256 257 x ∷ []))
+    kernel_step 0 (Map 1048576 4096 x 50 (negsuc 0) 0) (Ok (Returned 1048576)) None
+    ∷ kernel_step 0 (Touch 256 Write) (Ok (Signal AccErr)) (Some (plain 256 257 x ∷ []))
     ∷ []
 
 -- fault_exec_only_write
 abbrev pub fault_exec_only_write_by_linux : List Step
 fault_exec_only_write_by_linux =
-    step 0 (Map 1048576 4096 x 50 (negsuc 0) 0) (Ok (Returned 1048576)) None
-    ∷ step 0 (Touch 256 Write) (Ok (Signal PkuErr)) (Some (plain 256 257 x ∷ []))
+    kernel_step 0 (Map 1048576 4096 x 50 (negsuc 0) 0) (Ok (Returned 1048576)) None
+    ∷ kernel_step 0 (Touch 256 Write) (Ok (Signal PkuErr)) (Some (plain 256 257 x ∷ []))
     ∷ []
 
 -- fault_exec_only_write: what the profile answers, and Linux
@@ -35,15 +35,15 @@ pub record FaultExecOnlyWrite : Type 0 where
 -- fault_exec_only_past_end
 abbrev pub fault_exec_only_past_end_by_profile : List Step
 fault_exec_only_past_end_by_profile =
-    step 0 (Map 1048576 8192 x 18 (pos 3) 0) (Ok (Returned 1048576)) None
-    ∷ step 0 (Touch 257 Read) (Ok (Signal BusErr)) (Some (filed 256 258 x false 0 1 ∷ []))
+    kernel_step 0 (Map 1048576 8192 x 18 (pos 3) 0) (Ok (Returned 1048576)) None
+    ∷ kernel_step 0 (Touch 257 Read) (Ok (Signal BusErr)) (Some (filed 256 258 x false 0 1 ∷ []))
     ∷ []
 
 -- fault_exec_only_past_end
 abbrev pub fault_exec_only_past_end_by_linux : List Step
 fault_exec_only_past_end_by_linux =
-    step 0 (Map 1048576 8192 x 18 (pos 3) 0) (Ok (Returned 1048576)) None
-    ∷ step 0 (Touch 257 Read) (Ok (Signal PkuErr)) (Some (filed 256 258 x false 0 1 ∷ []))
+    kernel_step 0 (Map 1048576 8192 x 18 (pos 3) 0) (Ok (Returned 1048576)) None
+    ∷ kernel_step 0 (Touch 257 Read) (Ok (Signal PkuErr)) (Some (filed 256 258 x false 0 1 ∷ []))
     ∷ []
 
 -- fault_exec_only_past_end: what the profile answers, and Linux
@@ -60,17 +60,17 @@ pub record FaultExecOnlyPastEnd : Type 0 where
 -- fault_exec_past_end
 abbrev pub fault_exec_past_end_by_profile : List Step
 fault_exec_past_end_by_profile =
-    step 0 (Map 1048576 8192 r 18 (pos 3) 0) (Ok (Returned 1048576)) None
-    ∷ step 0 (Touch 257 Exec) (Ok (Signal AccErr)) None
-    ∷ step 0 (Touch 256 Exec) (Ok (Signal AccErr)) (Some (filed 256 258 r false 0 1 ∷ []))
+    kernel_step 0 (Map 1048576 8192 r 18 (pos 3) 0) (Ok (Returned 1048576)) None
+    ∷ kernel_step 0 (Touch 257 Exec) (Ok (Signal AccErr)) None
+    ∷ kernel_step 0 (Touch 256 Exec) (Ok (Signal AccErr)) (Some (filed 256 258 r false 0 1 ∷ []))
     ∷ []
 
 -- fault_exec_past_end
 abbrev pub fault_exec_past_end_by_linux : List Step
 fault_exec_past_end_by_linux =
-    step 0 (Map 1048576 8192 r 18 (pos 3) 0) (Ok (Returned 1048576)) None
-    ∷ step 0 (Touch 257 Exec) (Ok (Signal BusErr)) None
-    ∷ step 0 (Touch 256 Exec) (Ok (Signal AccErr)) (Some (filed 256 258 r false 0 1 ∷ []))
+    kernel_step 0 (Map 1048576 8192 r 18 (pos 3) 0) (Ok (Returned 1048576)) None
+    ∷ kernel_step 0 (Touch 257 Exec) (Ok (Signal BusErr)) None
+    ∷ kernel_step 0 (Touch 256 Exec) (Ok (Signal AccErr)) (Some (filed 256 258 r false 0 1 ∷ []))
     ∷ []
 
 -- fault_exec_past_end: what the profile answers, and Linux
@@ -87,17 +87,17 @@ pub record FaultExecPastEnd : Type 0 where
 -- fault_not_canonical
 abbrev pub fault_not_canonical_by_profile : List Step
 fault_not_canonical_by_profile =
-    step 0 (Touch 34359738368 Read) (Ok (Signal MapErr)) None
-    ∷ step 0 (Touch 34359738367 Read) (Ok (Signal MapErr)) None
-    ∷ step 0 (Touch 4503565267632128 Read) (Ok (Signal MapErr)) (Some ([]))
+    kernel_step 0 (Touch 34359738368 Read) (Ok (Signal MapErr)) None
+    ∷ kernel_step 0 (Touch 34359738367 Read) (Ok (Signal MapErr)) None
+    ∷ kernel_step 0 (Touch 4503565267632128 Read) (Ok (Signal MapErr)) (Some ([]))
     ∷ []
 
 -- fault_not_canonical
 abbrev pub fault_not_canonical_by_linux : List Step
 fault_not_canonical_by_linux =
-    step 0 (Touch 34359738368 Read) (Ok (Signal NotCanonical)) None
-    ∷ step 0 (Touch 34359738367 Read) (Ok (Signal MapErr)) None
-    ∷ step 0 (Touch 4503565267632128 Read) (Ok (Signal MapErr)) (Some ([]))
+    kernel_step 0 (Touch 34359738368 Read) (Ok (Signal NotCanonical)) None
+    ∷ kernel_step 0 (Touch 34359738367 Read) (Ok (Signal MapErr)) None
+    ∷ kernel_step 0 (Touch 4503565267632128 Read) (Ok (Signal MapErr)) (Some ([]))
     ∷ []
 
 -- fault_not_canonical: what the profile answers, and Linux
@@ -114,13 +114,13 @@ pub record FaultNotCanonical : Type 0 where
 -- fault_vsyscall
 abbrev pub fault_vsyscall_by_profile : List Step
 fault_vsyscall_by_profile =
-    step 0 (Touch 4503599627367936 Exec) (Ok (Signal MapErr)) (Some ([]))
+    kernel_step 0 (Touch 4503599627367936 Exec) (Ok (Signal MapErr)) (Some ([]))
     ∷ []
 
 -- fault_vsyscall
 abbrev pub fault_vsyscall_by_linux : List Step
 fault_vsyscall_by_linux =
-    step 0 (Touch 4503599627367936 Exec) (Ok (Serves 4503599627367936 4503599627367937 x false 0)) (Some ([]))
+    kernel_step 0 (Touch 4503599627367936 Exec) (Ok (Serves 4503599627367936 4503599627367937 x false 0)) (Some ([]))
     ∷ []
 
 -- fault_vsyscall: what the profile answers, and Linux
@@ -137,17 +137,17 @@ pub record FaultVsyscall : Type 0 where
 -- fault_shared_grown
 abbrev pub fault_shared_grown_by_profile : List Step
 fault_shared_grown_by_profile =
-    step 0 (Map 1048576 4096 rw 49 (negsuc 0) 0) (Ok (Returned 1048576)) None
-    ∷ step 0 (Remap 1048576 4096 8192 0 0) (Ok (Returned 1048576)) None
-    ∷ step 0 (Touch 257 Read) (Ok (Serves 256 258 rw true 1)) (Some (filed 256 258 rw true 0 1 ∷ []))
+    kernel_step 0 (Map 1048576 4096 rw 49 (negsuc 0) 0) (Ok (Returned 1048576)) None
+    ∷ kernel_step 0 (Remap 1048576 4096 8192 0 0) (Ok (Returned 1048576)) None
+    ∷ kernel_step 0 (Touch 257 Read) (Ok (Serves 256 258 rw true 1)) (Some (filed 256 258 rw true 0 1 ∷ []))
     ∷ []
 
 -- fault_shared_grown
 abbrev pub fault_shared_grown_by_linux : List Step
 fault_shared_grown_by_linux =
-    step 0 (Map 1048576 4096 rw 49 (negsuc 0) 0) (Ok (Returned 1048576)) None
-    ∷ step 0 (Remap 1048576 4096 8192 0 0) (Ok (Returned 1048576)) None
-    ∷ step 0 (Touch 257 Read) (Ok (Signal BusErr)) (Some (filed 256 258 rw true 0 1 ∷ []))
+    kernel_step 0 (Map 1048576 4096 rw 49 (negsuc 0) 0) (Ok (Returned 1048576)) None
+    ∷ kernel_step 0 (Remap 1048576 4096 8192 0 0) (Ok (Returned 1048576)) None
+    ∷ kernel_step 0 (Touch 257 Read) (Ok (Signal BusErr)) (Some (filed 256 258 rw true 0 1 ∷ []))
     ∷ []
 
 -- fault_shared_grown: what the profile answers, and Linux
@@ -164,15 +164,15 @@ pub record FaultSharedGrown : Type 0 where
 -- grow_far
 abbrev pub grow_far_by_profile : List Step
 grow_far_by_profile =
-    step 0 (Map 2097152 4096 rw 306 (negsuc 0) 0) (Ok (Returned 2097152)) None
-    ∷ step 0 (Touch 509 Write) (Ok (Signal MapErr)) (Some (plain 512 513 rw ∷ []))
+    kernel_step 0 (Map 2097152 4096 rw 306 (negsuc 0) 0) (Ok (Returned 2097152)) None
+    ∷ kernel_step 0 (Touch 509 Write) (Ok (Signal MapErr)) (Some (plain 512 513 rw ∷ []))
     ∷ []
 
 -- grow_far
 abbrev pub grow_far_by_linux : List Step
 grow_far_by_linux =
-    step 0 (Map 2097152 4096 rw 306 (negsuc 0) 0) (Ok (Returned 2097152)) None
-    ∷ step 0 (Touch 509 Write) (Ok (Serves 509 513 rw false 0)) (Some (plain 509 513 rw ∷ []))
+    kernel_step 0 (Map 2097152 4096 rw 306 (negsuc 0) 0) (Ok (Returned 2097152)) None
+    ∷ kernel_step 0 (Touch 509 Write) (Ok (Serves 509 513 rw false 0)) (Some (plain 509 513 rw ∷ []))
     ∷ []
 
 -- grow_far: what the profile answers, and Linux
@@ -189,17 +189,17 @@ pub record GrowFar : Type 0 where
 -- grow_near
 abbrev pub grow_near_by_profile : List Step
 grow_near_by_profile =
-    step 0 (Map 1048576 4096 rw 50 (negsuc 0) 0) (Ok (Returned 1048576)) None
-    ∷ step 0 (Map 1572864 4096 rw 306 (negsuc 0) 0) (Ok (Returned 1572864)) None
-    ∷ step 0 (Touch 383 Write) (Ok (Serves 383 385 rw false 0)) (Some (plain 256 257 rw ∷ plain 383 385 rw ∷ []))
+    kernel_step 0 (Map 1048576 4096 rw 50 (negsuc 0) 0) (Ok (Returned 1048576)) None
+    ∷ kernel_step 0 (Map 1572864 4096 rw 306 (negsuc 0) 0) (Ok (Returned 1572864)) None
+    ∷ kernel_step 0 (Touch 383 Write) (Ok (Serves 383 385 rw false 0)) (Some (plain 256 257 rw ∷ plain 383 385 rw ∷ []))
     ∷ []
 
 -- grow_near
 abbrev pub grow_near_by_linux : List Step
 grow_near_by_linux =
-    step 0 (Map 1048576 4096 rw 50 (negsuc 0) 0) (Ok (Returned 1048576)) None
-    ∷ step 0 (Map 1572864 4096 rw 306 (negsuc 0) 0) (Ok (Returned 1572864)) None
-    ∷ step 0 (Touch 383 Write) (Ok (Signal MapErr)) (Some (plain 256 257 rw ∷ plain 384 385 rw ∷ []))
+    kernel_step 0 (Map 1048576 4096 rw 50 (negsuc 0) 0) (Ok (Returned 1048576)) None
+    ∷ kernel_step 0 (Map 1572864 4096 rw 306 (negsuc 0) 0) (Ok (Returned 1572864)) None
+    ∷ kernel_step 0 (Touch 383 Write) (Ok (Signal MapErr)) (Some (plain 256 257 rw ∷ plain 384 385 rw ∷ []))
     ∷ []
 
 -- grow_near: what the profile answers, and Linux
@@ -216,15 +216,15 @@ pub record GrowNear : Type 0 where
 -- grow_min
 abbrev pub grow_min_by_profile : List Step
 grow_min_by_profile =
-    step 0 (Map 8192 4096 rw 306 (negsuc 0) 0) (Ok (Returned 8192)) None
-    ∷ step 0 (Touch 1 Write) (Ok (Serves 1 3 rw false 0)) (Some (plain 1 3 rw ∷ []))
+    kernel_step 0 (Map 8192 4096 rw 306 (negsuc 0) 0) (Ok (Returned 8192)) None
+    ∷ kernel_step 0 (Touch 1 Write) (Ok (Serves 1 3 rw false 0)) (Some (plain 1 3 rw ∷ []))
     ∷ []
 
 -- grow_min
 abbrev pub grow_min_by_linux : List Step
 grow_min_by_linux =
-    step 0 (Map 8192 4096 rw 306 (negsuc 0) 0) (Ok (Returned 8192)) None
-    ∷ step 0 (Touch 1 Write) (Ok (Signal MapErr)) (Some (plain 2 3 rw ∷ []))
+    kernel_step 0 (Map 8192 4096 rw 306 (negsuc 0) 0) (Ok (Returned 8192)) None
+    ∷ kernel_step 0 (Touch 1 Write) (Ok (Signal MapErr)) (Some (plain 2 3 rw ∷ []))
     ∷ []
 
 -- grow_min: what the profile answers, and Linux
@@ -241,19 +241,19 @@ pub record GrowMin : Type 0 where
 -- grow_none
 abbrev pub grow_none_by_profile : List Step
 grow_none_by_profile =
-    step 0 (Map 1564672 4096 none 50 (negsuc 0) 0) (Ok (Returned 1564672)) None
-    ∷ step 0 (Map 1572864 4096 rw 306 (negsuc 0) 0) (Ok (Returned 1572864)) None
-    ∷ step 0 (Touch 383 Write) (Ok (Signal MapErr)) None
-    ∷ step 0 (Touch 382 Write) (Ok (Signal AccErr)) (Some (plain 382 383 none ∷ plain 384 385 rw ∷ []))
+    kernel_step 0 (Map 1564672 4096 none 50 (negsuc 0) 0) (Ok (Returned 1564672)) None
+    ∷ kernel_step 0 (Map 1572864 4096 rw 306 (negsuc 0) 0) (Ok (Returned 1572864)) None
+    ∷ kernel_step 0 (Touch 383 Write) (Ok (Signal MapErr)) None
+    ∷ kernel_step 0 (Touch 382 Write) (Ok (Signal AccErr)) (Some (plain 382 383 none ∷ plain 384 385 rw ∷ []))
     ∷ []
 
 -- grow_none
 abbrev pub grow_none_by_linux : List Step
 grow_none_by_linux =
-    step 0 (Map 1564672 4096 none 50 (negsuc 0) 0) (Ok (Returned 1564672)) None
-    ∷ step 0 (Map 1572864 4096 rw 306 (negsuc 0) 0) (Ok (Returned 1572864)) None
-    ∷ step 0 (Touch 383 Write) (Ok (Serves 383 385 rw false 0)) None
-    ∷ step 0 (Touch 382 Write) (Ok (Signal AccErr)) (Some (plain 382 383 none ∷ plain 383 385 rw ∷ []))
+    kernel_step 0 (Map 1564672 4096 none 50 (negsuc 0) 0) (Ok (Returned 1564672)) None
+    ∷ kernel_step 0 (Map 1572864 4096 rw 306 (negsuc 0) 0) (Ok (Returned 1572864)) None
+    ∷ kernel_step 0 (Touch 383 Write) (Ok (Serves 383 385 rw false 0)) None
+    ∷ kernel_step 0 (Touch 382 Write) (Ok (Signal AccErr)) (Some (plain 382 383 none ∷ plain 383 385 rw ∷ []))
     ∷ []
 
 -- grow_none: what the profile answers, and Linux
@@ -270,19 +270,19 @@ pub record GrowNone : Type 0 where
 -- grow_growing
 abbrev pub grow_growing_by_profile : List Step
 grow_growing_by_profile =
-    step 0 (Map 1560576 4096 rw 306 (negsuc 0) 0) (Ok (Returned 1560576)) None
-    ∷ step 0 (Map 1572864 4096 rw 306 (negsuc 0) 0) (Ok (Returned 1572864)) None
-    ∷ step 0 (Touch 383 Write) (Ok (Serves 383 385 rw false 0)) None
-    ∷ step 0 (Touch 382 Write) (Ok (Signal MapErr)) (Some (plain 381 382 rw ∷ plain 383 385 rw ∷ []))
+    kernel_step 0 (Map 1560576 4096 rw 306 (negsuc 0) 0) (Ok (Returned 1560576)) None
+    ∷ kernel_step 0 (Map 1572864 4096 rw 306 (negsuc 0) 0) (Ok (Returned 1572864)) None
+    ∷ kernel_step 0 (Touch 383 Write) (Ok (Serves 383 385 rw false 0)) None
+    ∷ kernel_step 0 (Touch 382 Write) (Ok (Signal MapErr)) (Some (plain 381 382 rw ∷ plain 383 385 rw ∷ []))
     ∷ []
 
 -- grow_growing
 abbrev pub grow_growing_by_linux : List Step
 grow_growing_by_linux =
-    step 0 (Map 1560576 4096 rw 306 (negsuc 0) 0) (Ok (Returned 1560576)) None
-    ∷ step 0 (Map 1572864 4096 rw 306 (negsuc 0) 0) (Ok (Returned 1572864)) None
-    ∷ step 0 (Touch 383 Write) (Ok (Serves 383 385 rw false 0)) None
-    ∷ step 0 (Touch 382 Write) (Ok (Serves 382 385 rw false 0)) (Some (plain 381 382 rw ∷ plain 382 385 rw ∷ []))
+    kernel_step 0 (Map 1560576 4096 rw 306 (negsuc 0) 0) (Ok (Returned 1560576)) None
+    ∷ kernel_step 0 (Map 1572864 4096 rw 306 (negsuc 0) 0) (Ok (Returned 1572864)) None
+    ∷ kernel_step 0 (Touch 383 Write) (Ok (Serves 383 385 rw false 0)) None
+    ∷ kernel_step 0 (Touch 382 Write) (Ok (Serves 382 385 rw false 0)) (Some (plain 381 382 rw ∷ plain 382 385 rw ∷ []))
     ∷ []
 
 -- grow_growing: what the profile answers, and Linux
@@ -299,15 +299,15 @@ pub record GrowGrowing : Type 0 where
 -- grow_denied
 abbrev pub grow_denied_by_profile : List Step
 grow_denied_by_profile =
-    step 0 (Map 2097152 4096 r 306 (negsuc 0) 0) (Ok (Returned 2097152)) None
-    ∷ step 0 (Touch 511 Write) (Ok (Signal AccErr)) (Some (plain 512 513 r ∷ []))
+    kernel_step 0 (Map 2097152 4096 r 306 (negsuc 0) 0) (Ok (Returned 2097152)) None
+    ∷ kernel_step 0 (Touch 511 Write) (Ok (Signal AccErr)) (Some (plain 512 513 r ∷ []))
     ∷ []
 
 -- grow_denied
 abbrev pub grow_denied_by_linux : List Step
 grow_denied_by_linux =
-    step 0 (Map 2097152 4096 r 306 (negsuc 0) 0) (Ok (Returned 2097152)) None
-    ∷ step 0 (Touch 511 Write) (Ok (Signal AccErr)) (Some (plain 511 513 r ∷ []))
+    kernel_step 0 (Map 2097152 4096 r 306 (negsuc 0) 0) (Ok (Returned 2097152)) None
+    ∷ kernel_step 0 (Touch 511 Write) (Ok (Signal AccErr)) (Some (plain 511 513 r ∷ []))
     ∷ []
 
 -- grow_denied: what the profile answers, and Linux
@@ -324,15 +324,15 @@ pub record GrowDenied : Type 0 where
 -- grow_large
 abbrev pub grow_large_by_profile : List Step
 grow_large_by_profile =
-    step 0 (Map 268435456 8388608 rw 306 (negsuc 0) 0) (Ok (Returned 268435456)) None
-    ∷ step 0 (Touch 65535 Write) (Ok (Serves 65535 67584 rw false 0)) (Some (plain 65535 67584 rw ∷ []))
+    kernel_step 0 (Map 268435456 8388608 rw 306 (negsuc 0) 0) (Ok (Returned 268435456)) None
+    ∷ kernel_step 0 (Touch 65535 Write) (Ok (Serves 65535 67584 rw false 0)) (Some (plain 65535 67584 rw ∷ []))
     ∷ []
 
 -- grow_large
 abbrev pub grow_large_by_linux : List Step
 grow_large_by_linux =
-    step 0 (Map 268435456 8388608 rw 306 (negsuc 0) 0) (Ok (Returned 268435456)) None
-    ∷ step 0 (Touch 65535 Write) (Ok (Signal MapErr)) (Some (plain 65536 67584 rw ∷ []))
+    kernel_step 0 (Map 268435456 8388608 rw 306 (negsuc 0) 0) (Ok (Returned 268435456)) None
+    ∷ kernel_step 0 (Touch 65535 Write) (Ok (Signal MapErr)) (Some (plain 65536 67584 rw ∷ []))
     ∷ []
 
 -- grow_large: what the profile answers, and Linux
@@ -349,51 +349,51 @@ pub record GrowLarge : Type 0 where
 -- grow_moved
 abbrev pub grow_moved_by_profile : List Step
 grow_moved_by_profile =
-    step 0 (Map 65536 4096 rw 306 (negsuc 0) 0) (Ok (Returned 65536)) None
-    ∷ step 0 (Touch 16 Write) (Ok (Serves 16 17 rw false 0)) None
-    ∷ step 0 (Remap 65536 4096 4096 3 268435456) (Ok (Returned 268435456)) None
-    ∷ step 0 (Touch 65535 Write) (Ok (Serves 65535 65537 rw false 0)) None
-    ∷ step 0 (Touch 65534 Write) (Ok (Serves 65534 65537 rw false 0)) None
-    ∷ step 0 (Touch 65533 Write) (Ok (Serves 65533 65537 rw false 0)) None
-    ∷ step 0 (Touch 65532 Write) (Ok (Serves 65532 65537 rw false 0)) None
-    ∷ step 0 (Touch 65531 Write) (Ok (Serves 65531 65537 rw false 0)) None
-    ∷ step 0 (Touch 65530 Write) (Ok (Serves 65530 65537 rw false 0)) None
-    ∷ step 0 (Touch 65529 Write) (Ok (Serves 65529 65537 rw false 0)) None
-    ∷ step 0 (Touch 65528 Write) (Ok (Serves 65528 65537 rw false 0)) None
-    ∷ step 0 (Touch 65527 Write) (Ok (Serves 65527 65537 rw false 0)) None
-    ∷ step 0 (Touch 65526 Write) (Ok (Serves 65526 65537 rw false 0)) None
-    ∷ step 0 (Touch 65525 Write) (Ok (Serves 65525 65537 rw false 0)) None
-    ∷ step 0 (Touch 65524 Write) (Ok (Serves 65524 65537 rw false 0)) None
-    ∷ step 0 (Touch 65523 Write) (Ok (Serves 65523 65537 rw false 0)) None
-    ∷ step 0 (Touch 65522 Write) (Ok (Serves 65522 65537 rw false 0)) None
-    ∷ step 0 (Touch 65521 Write) (Ok (Serves 65521 65537 rw false 0)) None
-    ∷ step 0 (Touch 65520 Write) (Ok (Serves 65520 65537 rw false 0)) None
-    ∷ step 0 (Touch 65519 Write) (Ok (Serves 65519 65537 rw false 0)) (Some (plain 65519 65537 rw ∷ []))
+    kernel_step 0 (Map 65536 4096 rw 306 (negsuc 0) 0) (Ok (Returned 65536)) None
+    ∷ kernel_step 0 (Touch 16 Write) (Ok (Serves 16 17 rw false 0)) None
+    ∷ kernel_step 0 (Remap 65536 4096 4096 3 268435456) (Ok (Returned 268435456)) None
+    ∷ kernel_step 0 (Touch 65535 Write) (Ok (Serves 65535 65537 rw false 0)) None
+    ∷ kernel_step 0 (Touch 65534 Write) (Ok (Serves 65534 65537 rw false 0)) None
+    ∷ kernel_step 0 (Touch 65533 Write) (Ok (Serves 65533 65537 rw false 0)) None
+    ∷ kernel_step 0 (Touch 65532 Write) (Ok (Serves 65532 65537 rw false 0)) None
+    ∷ kernel_step 0 (Touch 65531 Write) (Ok (Serves 65531 65537 rw false 0)) None
+    ∷ kernel_step 0 (Touch 65530 Write) (Ok (Serves 65530 65537 rw false 0)) None
+    ∷ kernel_step 0 (Touch 65529 Write) (Ok (Serves 65529 65537 rw false 0)) None
+    ∷ kernel_step 0 (Touch 65528 Write) (Ok (Serves 65528 65537 rw false 0)) None
+    ∷ kernel_step 0 (Touch 65527 Write) (Ok (Serves 65527 65537 rw false 0)) None
+    ∷ kernel_step 0 (Touch 65526 Write) (Ok (Serves 65526 65537 rw false 0)) None
+    ∷ kernel_step 0 (Touch 65525 Write) (Ok (Serves 65525 65537 rw false 0)) None
+    ∷ kernel_step 0 (Touch 65524 Write) (Ok (Serves 65524 65537 rw false 0)) None
+    ∷ kernel_step 0 (Touch 65523 Write) (Ok (Serves 65523 65537 rw false 0)) None
+    ∷ kernel_step 0 (Touch 65522 Write) (Ok (Serves 65522 65537 rw false 0)) None
+    ∷ kernel_step 0 (Touch 65521 Write) (Ok (Serves 65521 65537 rw false 0)) None
+    ∷ kernel_step 0 (Touch 65520 Write) (Ok (Serves 65520 65537 rw false 0)) None
+    ∷ kernel_step 0 (Touch 65519 Write) (Ok (Serves 65519 65537 rw false 0)) (Some (plain 65519 65537 rw ∷ []))
     ∷ []
 
 -- grow_moved
 abbrev pub grow_moved_by_linux : List Step
 grow_moved_by_linux =
-    step 0 (Map 65536 4096 rw 306 (negsuc 0) 0) (Ok (Returned 65536)) None
-    ∷ step 0 (Touch 16 Write) (Ok (Serves 16 17 rw false 0)) None
-    ∷ step 0 (Remap 65536 4096 4096 3 268435456) (Ok (Returned 268435456)) None
-    ∷ step 0 (Touch 65535 Write) (Ok (Serves 65535 65537 rw false 0)) None
-    ∷ step 0 (Touch 65534 Write) (Ok (Serves 65534 65537 rw false 0)) None
-    ∷ step 0 (Touch 65533 Write) (Ok (Serves 65533 65537 rw false 0)) None
-    ∷ step 0 (Touch 65532 Write) (Ok (Serves 65532 65537 rw false 0)) None
-    ∷ step 0 (Touch 65531 Write) (Ok (Serves 65531 65537 rw false 0)) None
-    ∷ step 0 (Touch 65530 Write) (Ok (Serves 65530 65537 rw false 0)) None
-    ∷ step 0 (Touch 65529 Write) (Ok (Serves 65529 65537 rw false 0)) None
-    ∷ step 0 (Touch 65528 Write) (Ok (Serves 65528 65537 rw false 0)) None
-    ∷ step 0 (Touch 65527 Write) (Ok (Serves 65527 65537 rw false 0)) None
-    ∷ step 0 (Touch 65526 Write) (Ok (Serves 65526 65537 rw false 0)) None
-    ∷ step 0 (Touch 65525 Write) (Ok (Serves 65525 65537 rw false 0)) None
-    ∷ step 0 (Touch 65524 Write) (Ok (Serves 65524 65537 rw false 0)) None
-    ∷ step 0 (Touch 65523 Write) (Ok (Serves 65523 65537 rw false 0)) None
-    ∷ step 0 (Touch 65522 Write) (Ok (Serves 65522 65537 rw false 0)) None
-    ∷ step 0 (Touch 65521 Write) (Ok (Serves 65521 65537 rw false 0)) None
-    ∷ step 0 (Touch 65520 Write) (Ok (Serves 65520 65537 rw false 0)) None
-    ∷ step 0 (Touch 65519 Write) (Ok (Signal MapErr)) (Some (plain 65520 65537 rw ∷ []))
+    kernel_step 0 (Map 65536 4096 rw 306 (negsuc 0) 0) (Ok (Returned 65536)) None
+    ∷ kernel_step 0 (Touch 16 Write) (Ok (Serves 16 17 rw false 0)) None
+    ∷ kernel_step 0 (Remap 65536 4096 4096 3 268435456) (Ok (Returned 268435456)) None
+    ∷ kernel_step 0 (Touch 65535 Write) (Ok (Serves 65535 65537 rw false 0)) None
+    ∷ kernel_step 0 (Touch 65534 Write) (Ok (Serves 65534 65537 rw false 0)) None
+    ∷ kernel_step 0 (Touch 65533 Write) (Ok (Serves 65533 65537 rw false 0)) None
+    ∷ kernel_step 0 (Touch 65532 Write) (Ok (Serves 65532 65537 rw false 0)) None
+    ∷ kernel_step 0 (Touch 65531 Write) (Ok (Serves 65531 65537 rw false 0)) None
+    ∷ kernel_step 0 (Touch 65530 Write) (Ok (Serves 65530 65537 rw false 0)) None
+    ∷ kernel_step 0 (Touch 65529 Write) (Ok (Serves 65529 65537 rw false 0)) None
+    ∷ kernel_step 0 (Touch 65528 Write) (Ok (Serves 65528 65537 rw false 0)) None
+    ∷ kernel_step 0 (Touch 65527 Write) (Ok (Serves 65527 65537 rw false 0)) None
+    ∷ kernel_step 0 (Touch 65526 Write) (Ok (Serves 65526 65537 rw false 0)) None
+    ∷ kernel_step 0 (Touch 65525 Write) (Ok (Serves 65525 65537 rw false 0)) None
+    ∷ kernel_step 0 (Touch 65524 Write) (Ok (Serves 65524 65537 rw false 0)) None
+    ∷ kernel_step 0 (Touch 65523 Write) (Ok (Serves 65523 65537 rw false 0)) None
+    ∷ kernel_step 0 (Touch 65522 Write) (Ok (Serves 65522 65537 rw false 0)) None
+    ∷ kernel_step 0 (Touch 65521 Write) (Ok (Serves 65521 65537 rw false 0)) None
+    ∷ kernel_step 0 (Touch 65520 Write) (Ok (Serves 65520 65537 rw false 0)) None
+    ∷ kernel_step 0 (Touch 65519 Write) (Ok (Signal MapErr)) (Some (plain 65520 65537 rw ∷ []))
     ∷ []
 
 -- grow_moved: what the profile answers, and Linux
@@ -410,15 +410,15 @@ pub record GrowMoved : Type 0 where
 -- grow_hint
 abbrev pub grow_hint_by_profile : List Step
 grow_hint_by_profile =
-    step 0 (Map 2097152 4096 rw 306 (negsuc 0) 0) (Ok (Returned 2097152)) None
-    ∷ step 0 (Map 1572864 4096 rw 34 (negsuc 0) 0) (Ok (Returned 1572864)) (Some (plain 384 385 rw ∷ plain 512 513 rw ∷ []))
+    kernel_step 0 (Map 2097152 4096 rw 306 (negsuc 0) 0) (Ok (Returned 2097152)) None
+    ∷ kernel_step 0 (Map 1572864 4096 rw 34 (negsuc 0) 0) (Ok (Returned 1572864)) (Some (plain 384 385 rw ∷ plain 512 513 rw ∷ []))
     ∷ []
 
 -- grow_hint
 abbrev pub grow_hint_by_linux : List Step
 grow_hint_by_linux =
-    step 0 (Map 2097152 4096 rw 306 (negsuc 0) 0) (Ok (Returned 2097152)) None
-    ∷ step 0 (Map 1572864 4096 rw 34 (negsuc 0) 0) (Ok (Returned 140737354129408)) (Some (plain 512 513 rw ∷ plain 34359705598 34359705599 rw ∷ []))
+    kernel_step 0 (Map 2097152 4096 rw 306 (negsuc 0) 0) (Ok (Returned 2097152)) None
+    ∷ kernel_step 0 (Map 1572864 4096 rw 34 (negsuc 0) 0) (Ok (Returned 140737354129408)) (Some (plain 512 513 rw ∷ plain 34359705598 34359705599 rw ∷ []))
     ∷ []
 
 -- grow_hint: what the profile answers, and Linux
@@ -435,15 +435,15 @@ pub record GrowHint : Type 0 where
 -- grow_search
 abbrev pub grow_search_by_profile : List Step
 grow_search_by_profile =
-    step 0 (Map 140737354129408 4096 rw 306 (negsuc 0) 0) (Ok (Returned 140737354129408)) None
-    ∷ step 0 (Map 0 4096 rw 34 (negsuc 0) 0) (Ok (Returned 140737354125312)) (Some (plain 34359705597 34359705598 rw ∷ plain 34359705598 34359705599 rw ∷ []))
+    kernel_step 0 (Map 140737354129408 4096 rw 306 (negsuc 0) 0) (Ok (Returned 140737354129408)) None
+    ∷ kernel_step 0 (Map 0 4096 rw 34 (negsuc 0) 0) (Ok (Returned 140737354125312)) (Some (plain 34359705597 34359705598 rw ∷ plain 34359705598 34359705599 rw ∷ []))
     ∷ []
 
 -- grow_search
 abbrev pub grow_search_by_linux : List Step
 grow_search_by_linux =
-    step 0 (Map 140737354129408 4096 rw 306 (negsuc 0) 0) (Ok (Returned 140737354129408)) None
-    ∷ step 0 (Map 0 4096 rw 34 (negsuc 0) 0) (Ok (Returned 140737353076736)) (Some (plain 34359705341 34359705342 rw ∷ plain 34359705598 34359705599 rw ∷ []))
+    kernel_step 0 (Map 140737354129408 4096 rw 306 (negsuc 0) 0) (Ok (Returned 140737354129408)) None
+    ∷ kernel_step 0 (Map 0 4096 rw 34 (negsuc 0) 0) (Ok (Returned 140737353076736)) (Some (plain 34359705341 34359705342 rw ∷ plain 34359705598 34359705599 rw ∷ []))
     ∷ []
 
 -- grow_search: what the profile answers, and Linux

@@ -2,26 +2,26 @@
 use Rattle.std.specs.Prelude.{List, ◌∷◌, [], true, false, negsuc, Some, None, Ok, Err}
 use Rattle.mm_types.specs.declared.area.Access.TheVariants.{Write}
 use Rattle.linux_rules.specs.Versions.{linux_6_1, linux_6_12, linux_6_16, linux_6_17, linux_6_18_15, linux_6_18, linux_7_2}
-use Rattle.linux_rules.specs.Steps.{Map, Protect, Remap, Break, Seal, Touch, Fork, Returned, Serves, Step, none, r, rw, plain, heap, filed, step, config}
+use Rattle.linux_rules.specs.Steps.{Map, Protect, Remap, Break, Seal, Touch, Fork, Returned, Serves, Step, none, r, rw, plain, heap, filed, kernel_step, config}
 use Rattle.linux_rules.specs.Recorded.{IsAsRecorded}
 use Rattle.linux_beside.specs.Sides.{IsByProfile, on_the_machine}
 
 -- seal_several
 abbrev pub seal_several_by_profile : List Step
 seal_several_by_profile =
-    step 0 (Map 1048576 4096 rw 50 (negsuc 0) 0) (Ok (Returned 1048576)) None
-    ∷ step 0 (Map 1052672 4096 r 50 (negsuc 0) 0) (Ok (Returned 1052672)) None
-    ∷ step 0 (Seal 1052672 4096 0) (Ok (Returned 0)) None
-    ∷ step 0 (Remap 1048576 8192 8192 3 2097152) (Err 14) (Some (plain 256 257 rw ∷ plain 257 258 r ∷ []))
+    kernel_step 0 (Map 1048576 4096 rw 50 (negsuc 0) 0) (Ok (Returned 1048576)) None
+    ∷ kernel_step 0 (Map 1052672 4096 r 50 (negsuc 0) 0) (Ok (Returned 1052672)) None
+    ∷ kernel_step 0 (Seal 1052672 4096 0) (Ok (Returned 0)) None
+    ∷ kernel_step 0 (Remap 1048576 8192 8192 3 2097152) (Err 14) (Some (plain 256 257 rw ∷ plain 257 258 r ∷ []))
     ∷ []
 
 -- seal_several
 abbrev pub seal_several_by_linux : List Step
 seal_several_by_linux =
-    step 0 (Map 1048576 4096 rw 50 (negsuc 0) 0) (Ok (Returned 1048576)) None
-    ∷ step 0 (Map 1052672 4096 r 50 (negsuc 0) 0) (Ok (Returned 1052672)) None
-    ∷ step 0 (Seal 1052672 4096 0) (Ok (Returned 0)) None
-    ∷ step 0 (Remap 1048576 8192 8192 3 2097152) (Err 1) (Some (plain 257 258 r ∷ plain 512 513 rw ∷ []))
+    kernel_step 0 (Map 1048576 4096 rw 50 (negsuc 0) 0) (Ok (Returned 1048576)) None
+    ∷ kernel_step 0 (Map 1052672 4096 r 50 (negsuc 0) 0) (Ok (Returned 1052672)) None
+    ∷ kernel_step 0 (Seal 1052672 4096 0) (Ok (Returned 0)) None
+    ∷ kernel_step 0 (Remap 1048576 8192 8192 3 2097152) (Err 1) (Some (plain 257 258 r ∷ plain 512 513 rw ∷ []))
     ∷ []
 
 -- seal_several: what the profile answers, and Linux
@@ -37,19 +37,19 @@ pub record SealSeveral : Type 0 where
 -- seal_fixed
 abbrev pub seal_fixed_by_profile : List Step
 seal_fixed_by_profile =
-    step 0 (Map 1048576 8192 rw 50 (negsuc 0) 0) (Ok (Returned 1048576)) None
-    ∷ step 0 (Map 1056768 4096 r 50 (negsuc 0) 0) (Ok (Returned 1056768)) None
-    ∷ step 0 (Seal 1056768 4096 0) (Ok (Returned 0)) None
-    ∷ step 0 (Map 1052672 8192 none 50 (negsuc 0) 0) (Err 1) (Some (plain 256 258 rw ∷ plain 258 259 r ∷ []))
+    kernel_step 0 (Map 1048576 8192 rw 50 (negsuc 0) 0) (Ok (Returned 1048576)) None
+    ∷ kernel_step 0 (Map 1056768 4096 r 50 (negsuc 0) 0) (Ok (Returned 1056768)) None
+    ∷ kernel_step 0 (Seal 1056768 4096 0) (Ok (Returned 0)) None
+    ∷ kernel_step 0 (Map 1052672 8192 none 50 (negsuc 0) 0) (Err 1) (Some (plain 256 258 rw ∷ plain 258 259 r ∷ []))
     ∷ []
 
 -- seal_fixed
 abbrev pub seal_fixed_by_linux : List Step
 seal_fixed_by_linux =
-    step 0 (Map 1048576 8192 rw 50 (negsuc 0) 0) (Ok (Returned 1048576)) None
-    ∷ step 0 (Map 1056768 4096 r 50 (negsuc 0) 0) (Ok (Returned 1056768)) None
-    ∷ step 0 (Seal 1056768 4096 0) (Ok (Returned 0)) None
-    ∷ step 0 (Map 1052672 8192 none 50 (negsuc 0) 0) (Err 1) (Some (plain 256 257 rw ∷ plain 257 258 rw ∷ plain 258 259 r ∷ []))
+    kernel_step 0 (Map 1048576 8192 rw 50 (negsuc 0) 0) (Ok (Returned 1048576)) None
+    ∷ kernel_step 0 (Map 1056768 4096 r 50 (negsuc 0) 0) (Ok (Returned 1056768)) None
+    ∷ kernel_step 0 (Seal 1056768 4096 0) (Ok (Returned 0)) None
+    ∷ kernel_step 0 (Map 1052672 8192 none 50 (negsuc 0) 0) (Err 1) (Some (plain 256 257 rw ∷ plain 257 258 rw ∷ plain 258 259 r ∷ []))
     ∷ []
 
 -- seal_fixed: what the profile answers, and Linux
@@ -65,19 +65,19 @@ pub record SealFixed : Type 0 where
 -- fork_written
 abbrev pub fork_written_by_profile : List Step
 fork_written_by_profile =
-    step 0 (Map 1048576 4096 rw 50 (negsuc 0) 0) (Ok (Returned 1048576)) None
-    ∷ step 0 (Touch 256 Write) (Ok (Serves 256 257 rw false 0)) None
-    ∷ step 0 (Fork 1) (Ok (Returned 0)) (Some (plain 256 257 rw ∷ []))
-    ∷ step 1 (Map 1052672 4096 rw 50 (negsuc 0) 0) (Ok (Returned 1052672)) (Some (plain 256 258 rw ∷ []))
+    kernel_step 0 (Map 1048576 4096 rw 50 (negsuc 0) 0) (Ok (Returned 1048576)) None
+    ∷ kernel_step 0 (Touch 256 Write) (Ok (Serves 256 257 rw false 0)) None
+    ∷ kernel_step 0 (Fork 1) (Ok (Returned 0)) (Some (plain 256 257 rw ∷ []))
+    ∷ kernel_step 1 (Map 1052672 4096 rw 50 (negsuc 0) 0) (Ok (Returned 1052672)) (Some (plain 256 258 rw ∷ []))
     ∷ []
 
 -- fork_written
 abbrev pub fork_written_by_linux : List Step
 fork_written_by_linux =
-    step 0 (Map 1048576 4096 rw 50 (negsuc 0) 0) (Ok (Returned 1048576)) None
-    ∷ step 0 (Touch 256 Write) (Ok (Serves 256 257 rw false 0)) None
-    ∷ step 0 (Fork 1) (Ok (Returned 0)) (Some (plain 256 257 rw ∷ []))
-    ∷ step 1 (Map 1052672 4096 rw 50 (negsuc 0) 0) (Ok (Returned 1052672)) (Some (plain 256 257 rw ∷ plain 257 258 rw ∷ []))
+    kernel_step 0 (Map 1048576 4096 rw 50 (negsuc 0) 0) (Ok (Returned 1048576)) None
+    ∷ kernel_step 0 (Touch 256 Write) (Ok (Serves 256 257 rw false 0)) None
+    ∷ kernel_step 0 (Fork 1) (Ok (Returned 0)) (Some (plain 256 257 rw ∷ []))
+    ∷ kernel_step 1 (Map 1052672 4096 rw 50 (negsuc 0) 0) (Ok (Returned 1052672)) (Some (plain 256 257 rw ∷ plain 257 258 rw ∷ []))
     ∷ []
 
 -- fork_written: what the profile answers, and Linux
@@ -94,17 +94,17 @@ pub record ForkWritten : Type 0 where
 -- limit_mmap
 abbrev pub limit_mmap_by_profile : List Step
 limit_mmap_by_profile =
-    step 0 (Map 1048576 4096 rw 50 (negsuc 0) 0) (Ok (Returned 1048576)) None
-    ∷ step 0 (Map 1056768 4096 rw 50 (negsuc 0) 0) (Err 12) None
-    ∷ step 0 (Map 1064960 4096 rw 50 (negsuc 0) 0) (Err 12) (Some (plain 256 257 rw ∷ []))
+    kernel_step 0 (Map 1048576 4096 rw 50 (negsuc 0) 0) (Ok (Returned 1048576)) None
+    ∷ kernel_step 0 (Map 1056768 4096 rw 50 (negsuc 0) 0) (Err 12) None
+    ∷ kernel_step 0 (Map 1064960 4096 rw 50 (negsuc 0) 0) (Err 12) (Some (plain 256 257 rw ∷ []))
     ∷ []
 
 -- limit_mmap
 abbrev pub limit_mmap_by_linux : List Step
 limit_mmap_by_linux =
-    step 0 (Map 1048576 4096 rw 50 (negsuc 0) 0) (Ok (Returned 1048576)) None
-    ∷ step 0 (Map 1056768 4096 rw 50 (negsuc 0) 0) (Ok (Returned 1056768)) None
-    ∷ step 0 (Map 1064960 4096 rw 50 (negsuc 0) 0) (Err 12) (Some (plain 256 257 rw ∷ plain 258 259 rw ∷ []))
+    kernel_step 0 (Map 1048576 4096 rw 50 (negsuc 0) 0) (Ok (Returned 1048576)) None
+    ∷ kernel_step 0 (Map 1056768 4096 rw 50 (negsuc 0) 0) (Ok (Returned 1056768)) None
+    ∷ kernel_step 0 (Map 1064960 4096 rw 50 (negsuc 0) 0) (Err 12) (Some (plain 256 257 rw ∷ plain 258 259 rw ∷ []))
     ∷ []
 
 -- limit_mmap: what the profile answers, and Linux
@@ -121,17 +121,17 @@ pub record LimitMmap : Type 0 where
 -- limit_join
 abbrev pub limit_join_by_profile : List Step
 limit_join_by_profile =
-    step 0 (Map 1048576 4096 rw 50 (negsuc 0) 0) (Ok (Returned 1048576)) None
-    ∷ step 0 (Map 1056768 4096 rw 50 (negsuc 0) 0) (Err 12) None
-    ∷ step 0 (Map 1052672 4096 rw 50 (negsuc 0) 0) (Ok (Returned 1052672)) (Some (plain 256 258 rw ∷ []))
+    kernel_step 0 (Map 1048576 4096 rw 50 (negsuc 0) 0) (Ok (Returned 1048576)) None
+    ∷ kernel_step 0 (Map 1056768 4096 rw 50 (negsuc 0) 0) (Err 12) None
+    ∷ kernel_step 0 (Map 1052672 4096 rw 50 (negsuc 0) 0) (Ok (Returned 1052672)) (Some (plain 256 258 rw ∷ []))
     ∷ []
 
 -- limit_join
 abbrev pub limit_join_by_linux : List Step
 limit_join_by_linux =
-    step 0 (Map 1048576 4096 rw 50 (negsuc 0) 0) (Ok (Returned 1048576)) None
-    ∷ step 0 (Map 1056768 4096 rw 50 (negsuc 0) 0) (Ok (Returned 1056768)) None
-    ∷ step 0 (Map 1052672 4096 rw 50 (negsuc 0) 0) (Err 12) (Some (plain 256 257 rw ∷ plain 258 259 rw ∷ []))
+    kernel_step 0 (Map 1048576 4096 rw 50 (negsuc 0) 0) (Ok (Returned 1048576)) None
+    ∷ kernel_step 0 (Map 1056768 4096 rw 50 (negsuc 0) 0) (Ok (Returned 1056768)) None
+    ∷ kernel_step 0 (Map 1052672 4096 rw 50 (negsuc 0) 0) (Err 12) (Some (plain 256 257 rw ∷ plain 258 259 rw ∷ []))
     ∷ []
 
 -- limit_join: what the profile answers, and Linux
@@ -148,17 +148,17 @@ pub record LimitJoin : Type 0 where
 -- limit_replace
 abbrev pub limit_replace_by_profile : List Step
 limit_replace_by_profile =
-    step 0 (Map 1048576 4096 rw 50 (negsuc 0) 0) (Ok (Returned 1048576)) None
-    ∷ step 0 (Map 1056768 4096 rw 50 (negsuc 0) 0) (Err 12) None
-    ∷ step 0 (Map 1048576 4096 r 50 (negsuc 0) 0) (Ok (Returned 1048576)) (Some (plain 256 257 r ∷ []))
+    kernel_step 0 (Map 1048576 4096 rw 50 (negsuc 0) 0) (Ok (Returned 1048576)) None
+    ∷ kernel_step 0 (Map 1056768 4096 rw 50 (negsuc 0) 0) (Err 12) None
+    ∷ kernel_step 0 (Map 1048576 4096 r 50 (negsuc 0) 0) (Ok (Returned 1048576)) (Some (plain 256 257 r ∷ []))
     ∷ []
 
 -- limit_replace
 abbrev pub limit_replace_by_linux : List Step
 limit_replace_by_linux =
-    step 0 (Map 1048576 4096 rw 50 (negsuc 0) 0) (Ok (Returned 1048576)) None
-    ∷ step 0 (Map 1056768 4096 rw 50 (negsuc 0) 0) (Ok (Returned 1056768)) None
-    ∷ step 0 (Map 1048576 4096 r 50 (negsuc 0) 0) (Err 12) (Some (plain 256 257 rw ∷ plain 258 259 rw ∷ []))
+    kernel_step 0 (Map 1048576 4096 rw 50 (negsuc 0) 0) (Ok (Returned 1048576)) None
+    ∷ kernel_step 0 (Map 1056768 4096 rw 50 (negsuc 0) 0) (Ok (Returned 1056768)) None
+    ∷ kernel_step 0 (Map 1048576 4096 r 50 (negsuc 0) 0) (Err 12) (Some (plain 256 257 rw ∷ plain 258 259 rw ∷ []))
     ∷ []
 
 -- limit_replace: what the profile answers, and Linux
@@ -175,15 +175,15 @@ pub record LimitReplace : Type 0 where
 -- limit_brk
 abbrev pub limit_brk_by_profile : List Step
 limit_brk_by_profile =
-    step 0 (Map 1048576 4096 rw 50 (negsuc 0) 0) (Ok (Returned 1048576)) None
-    ∷ step 0 (Break 2101248) (Ok (Returned 2097152)) (Some (plain 256 257 rw ∷ []))
+    kernel_step 0 (Map 1048576 4096 rw 50 (negsuc 0) 0) (Ok (Returned 1048576)) None
+    ∷ kernel_step 0 (Break 2101248) (Ok (Returned 2097152)) (Some (plain 256 257 rw ∷ []))
     ∷ []
 
 -- limit_brk
 abbrev pub limit_brk_by_linux : List Step
 limit_brk_by_linux =
-    step 0 (Map 1048576 4096 rw 50 (negsuc 0) 0) (Ok (Returned 1048576)) None
-    ∷ step 0 (Break 2101248) (Ok (Returned 2101248)) (Some (plain 256 257 rw ∷ heap 512 513 rw ∷ []))
+    kernel_step 0 (Map 1048576 4096 rw 50 (negsuc 0) 0) (Ok (Returned 1048576)) None
+    ∷ kernel_step 0 (Break 2101248) (Ok (Returned 2101248)) (Some (plain 256 257 rw ∷ heap 512 513 rw ∷ []))
     ∷ []
 
 -- limit_brk: what the profile answers, and Linux
@@ -200,17 +200,17 @@ pub record LimitBrk : Type 0 where
 -- limit_move
 abbrev pub limit_move_by_profile : List Step
 limit_move_by_profile =
-    step 0 (Map 1048576 4096 rw 50 (negsuc 0) 0) (Ok (Returned 1048576)) None
-    ∷ step 0 (Map 1052672 4096 r 50 (negsuc 0) 0) (Ok (Returned 1052672)) None
-    ∷ step 0 (Remap 1048576 4096 8192 1 0) (Ok (Returned 140737354125312)) (Some (plain 257 258 r ∷ plain 34359705597 34359705599 rw ∷ []))
+    kernel_step 0 (Map 1048576 4096 rw 50 (negsuc 0) 0) (Ok (Returned 1048576)) None
+    ∷ kernel_step 0 (Map 1052672 4096 r 50 (negsuc 0) 0) (Ok (Returned 1052672)) None
+    ∷ kernel_step 0 (Remap 1048576 4096 8192 1 0) (Ok (Returned 140737354125312)) (Some (plain 257 258 r ∷ plain 34359705597 34359705599 rw ∷ []))
     ∷ []
 
 -- limit_move
 abbrev pub limit_move_by_linux : List Step
 limit_move_by_linux =
-    step 0 (Map 1048576 4096 rw 50 (negsuc 0) 0) (Ok (Returned 1048576)) None
-    ∷ step 0 (Map 1052672 4096 r 50 (negsuc 0) 0) (Ok (Returned 1052672)) None
-    ∷ step 0 (Remap 1048576 4096 8192 1 0) (Err 12) (Some (plain 256 257 rw ∷ plain 257 258 r ∷ []))
+    kernel_step 0 (Map 1048576 4096 rw 50 (negsuc 0) 0) (Ok (Returned 1048576)) None
+    ∷ kernel_step 0 (Map 1052672 4096 r 50 (negsuc 0) 0) (Ok (Returned 1052672)) None
+    ∷ kernel_step 0 (Remap 1048576 4096 8192 1 0) (Err 12) (Some (plain 256 257 rw ∷ plain 257 258 r ∷ []))
     ∷ []
 
 -- limit_move: what the profile answers, and Linux
@@ -227,17 +227,17 @@ pub record LimitMove : Type 0 where
 -- limit_move_fixed
 abbrev pub limit_move_fixed_by_profile : List Step
 limit_move_fixed_by_profile =
-    step 0 (Map 1048576 4096 rw 50 (negsuc 0) 0) (Ok (Returned 1048576)) None
-    ∷ step 0 (Map 1052672 4096 r 50 (negsuc 0) 0) (Ok (Returned 1052672)) None
-    ∷ step 0 (Remap 1048576 4096 4096 3 2097152) (Ok (Returned 2097152)) (Some (plain 257 258 r ∷ plain 512 513 rw ∷ []))
+    kernel_step 0 (Map 1048576 4096 rw 50 (negsuc 0) 0) (Ok (Returned 1048576)) None
+    ∷ kernel_step 0 (Map 1052672 4096 r 50 (negsuc 0) 0) (Ok (Returned 1052672)) None
+    ∷ kernel_step 0 (Remap 1048576 4096 4096 3 2097152) (Ok (Returned 2097152)) (Some (plain 257 258 r ∷ plain 512 513 rw ∷ []))
     ∷ []
 
 -- limit_move_fixed
 abbrev pub limit_move_fixed_by_linux : List Step
 limit_move_fixed_by_linux =
-    step 0 (Map 1048576 4096 rw 50 (negsuc 0) 0) (Ok (Returned 1048576)) None
-    ∷ step 0 (Map 1052672 4096 r 50 (negsuc 0) 0) (Ok (Returned 1052672)) None
-    ∷ step 0 (Remap 1048576 4096 4096 3 2097152) (Err 12) (Some (plain 256 257 rw ∷ plain 257 258 r ∷ []))
+    kernel_step 0 (Map 1048576 4096 rw 50 (negsuc 0) 0) (Ok (Returned 1048576)) None
+    ∷ kernel_step 0 (Map 1052672 4096 r 50 (negsuc 0) 0) (Ok (Returned 1052672)) None
+    ∷ kernel_step 0 (Remap 1048576 4096 4096 3 2097152) (Err 12) (Some (plain 256 257 rw ∷ plain 257 258 r ∷ []))
     ∷ []
 
 -- limit_move_fixed: what the profile answers, and Linux
@@ -254,15 +254,15 @@ pub record LimitMoveFixed : Type 0 where
 -- limit_fixed_middle
 abbrev pub limit_fixed_middle_by_profile : List Step
 limit_fixed_middle_by_profile =
-    step 0 (Map 1048576 12288 rw 50 (negsuc 0) 0) (Ok (Returned 1048576)) None
-    ∷ step 0 (Map 1052672 4096 r 50 (negsuc 0) 0) (Err 12) (Some (plain 256 259 rw ∷ []))
+    kernel_step 0 (Map 1048576 12288 rw 50 (negsuc 0) 0) (Ok (Returned 1048576)) None
+    ∷ kernel_step 0 (Map 1052672 4096 r 50 (negsuc 0) 0) (Err 12) (Some (plain 256 259 rw ∷ []))
     ∷ []
 
 -- limit_fixed_middle
 abbrev pub limit_fixed_middle_by_linux : List Step
 limit_fixed_middle_by_linux =
-    step 0 (Map 1048576 12288 rw 50 (negsuc 0) 0) (Ok (Returned 1048576)) None
-    ∷ step 0 (Map 1052672 4096 r 50 (negsuc 0) 0) (Ok (Returned 1052672)) (Some (plain 256 257 rw ∷ plain 257 258 r ∷ plain 258 259 rw ∷ []))
+    kernel_step 0 (Map 1048576 12288 rw 50 (negsuc 0) 0) (Ok (Returned 1048576)) None
+    ∷ kernel_step 0 (Map 1052672 4096 r 50 (negsuc 0) 0) (Ok (Returned 1052672)) (Some (plain 256 257 rw ∷ plain 257 258 r ∷ plain 258 259 rw ∷ []))
     ∷ []
 
 -- limit_fixed_middle: what the profile answers, and Linux
@@ -279,15 +279,15 @@ pub record LimitFixedMiddle : Type 0 where
 -- limit_border
 abbrev pub limit_border_by_profile : List Step
 limit_border_by_profile =
-    step 0 (Map 1048576 12288 rw 50 (negsuc 0) 0) (Ok (Returned 1048576)) None
-    ∷ step 0 (Protect 1052672 4096 r) (Err 12) (Some (plain 256 259 rw ∷ []))
+    kernel_step 0 (Map 1048576 12288 rw 50 (negsuc 0) 0) (Ok (Returned 1048576)) None
+    ∷ kernel_step 0 (Protect 1052672 4096 r) (Err 12) (Some (plain 256 259 rw ∷ []))
     ∷ []
 
 -- limit_border
 abbrev pub limit_border_by_linux : List Step
 limit_border_by_linux =
-    step 0 (Map 1048576 12288 rw 50 (negsuc 0) 0) (Ok (Returned 1048576)) None
-    ∷ step 0 (Protect 1052672 4096 r) (Err 12) (Some (plain 256 257 rw ∷ plain 257 259 rw ∷ []))
+    kernel_step 0 (Map 1048576 12288 rw 50 (negsuc 0) 0) (Ok (Returned 1048576)) None
+    ∷ kernel_step 0 (Protect 1052672 4096 r) (Err 12) (Some (plain 256 257 rw ∷ plain 257 259 rw ∷ []))
     ∷ []
 
 -- limit_border: what the profile answers, and Linux
@@ -304,17 +304,17 @@ pub record LimitBorder : Type 0 where
 -- limit_prefix
 abbrev pub limit_prefix_by_profile : List Step
 limit_prefix_by_profile =
-    step 0 (Map 1048576 4096 rw 50 (negsuc 0) 0) (Ok (Returned 1048576)) None
-    ∷ step 0 (Map 1052672 8192 rw 49 (negsuc 0) 0) (Ok (Returned 1052672)) None
-    ∷ step 0 (Protect 1048576 8192 r) (Err 12) (Some (plain 256 257 rw ∷ filed 257 259 rw true 0 1 ∷ []))
+    kernel_step 0 (Map 1048576 4096 rw 50 (negsuc 0) 0) (Ok (Returned 1048576)) None
+    ∷ kernel_step 0 (Map 1052672 8192 rw 49 (negsuc 0) 0) (Ok (Returned 1052672)) None
+    ∷ kernel_step 0 (Protect 1048576 8192 r) (Err 12) (Some (plain 256 257 rw ∷ filed 257 259 rw true 0 1 ∷ []))
     ∷ []
 
 -- limit_prefix
 abbrev pub limit_prefix_by_linux : List Step
 limit_prefix_by_linux =
-    step 0 (Map 1048576 4096 rw 50 (negsuc 0) 0) (Ok (Returned 1048576)) None
-    ∷ step 0 (Map 1052672 8192 rw 49 (negsuc 0) 0) (Ok (Returned 1052672)) None
-    ∷ step 0 (Protect 1048576 8192 r) (Err 12) (Some (plain 256 257 r ∷ filed 257 259 rw true 0 1 ∷ []))
+    kernel_step 0 (Map 1048576 4096 rw 50 (negsuc 0) 0) (Ok (Returned 1048576)) None
+    ∷ kernel_step 0 (Map 1052672 8192 rw 49 (negsuc 0) 0) (Ok (Returned 1052672)) None
+    ∷ kernel_step 0 (Protect 1048576 8192 r) (Err 12) (Some (plain 256 257 r ∷ filed 257 259 rw true 0 1 ∷ []))
     ∷ []
 
 -- limit_prefix: what the profile answers, and Linux
@@ -331,19 +331,19 @@ pub record LimitPrefix : Type 0 where
 -- limit_prefix_seal
 abbrev pub limit_prefix_seal_by_profile : List Step
 limit_prefix_seal_by_profile =
-    step 0 (Map 1048576 4096 rw 50 (negsuc 0) 0) (Ok (Returned 1048576)) None
-    ∷ step 0 (Map 1052672 8192 rw 49 (negsuc 0) 0) (Ok (Returned 1052672)) None
-    ∷ step 0 (Seal 1048576 8192 0) (Err 12) None
-    ∷ step 0 (Protect 1048576 4096 r) (Ok (Returned 0)) (Some (plain 256 257 r ∷ filed 257 259 rw true 0 1 ∷ []))
+    kernel_step 0 (Map 1048576 4096 rw 50 (negsuc 0) 0) (Ok (Returned 1048576)) None
+    ∷ kernel_step 0 (Map 1052672 8192 rw 49 (negsuc 0) 0) (Ok (Returned 1052672)) None
+    ∷ kernel_step 0 (Seal 1048576 8192 0) (Err 12) None
+    ∷ kernel_step 0 (Protect 1048576 4096 r) (Ok (Returned 0)) (Some (plain 256 257 r ∷ filed 257 259 rw true 0 1 ∷ []))
     ∷ []
 
 -- limit_prefix_seal
 abbrev pub limit_prefix_seal_by_linux : List Step
 limit_prefix_seal_by_linux =
-    step 0 (Map 1048576 4096 rw 50 (negsuc 0) 0) (Ok (Returned 1048576)) None
-    ∷ step 0 (Map 1052672 8192 rw 49 (negsuc 0) 0) (Ok (Returned 1052672)) None
-    ∷ step 0 (Seal 1048576 8192 0) (Err 12) None
-    ∷ step 0 (Protect 1048576 4096 r) (Err 1) (Some (plain 256 257 rw ∷ filed 257 259 rw true 0 1 ∷ []))
+    kernel_step 0 (Map 1048576 4096 rw 50 (negsuc 0) 0) (Ok (Returned 1048576)) None
+    ∷ kernel_step 0 (Map 1052672 8192 rw 49 (negsuc 0) 0) (Ok (Returned 1052672)) None
+    ∷ kernel_step 0 (Seal 1048576 8192 0) (Err 12) None
+    ∷ kernel_step 0 (Protect 1048576 4096 r) (Err 1) (Some (plain 256 257 rw ∷ filed 257 259 rw true 0 1 ∷ []))
     ∷ []
 
 -- limit_prefix_seal: what the profile answers, and Linux
@@ -359,17 +359,17 @@ pub record LimitPrefixSeal : Type 0 where
 -- limit_rights
 abbrev pub limit_rights_by_profile : List Step
 limit_rights_by_profile =
-    step 0 (Map 1048576 8192 rw 50 (negsuc 0) 0) (Ok (Returned 1048576)) None
-    ∷ step 0 (Map 1056768 4096 none 50 (negsuc 0) 0) (Ok (Returned 1056768)) None
-    ∷ step 0 (Protect 1052672 8192 r) (Ok (Returned 0)) (Some (plain 256 257 rw ∷ plain 257 259 r ∷ []))
+    kernel_step 0 (Map 1048576 8192 rw 50 (negsuc 0) 0) (Ok (Returned 1048576)) None
+    ∷ kernel_step 0 (Map 1056768 4096 none 50 (negsuc 0) 0) (Ok (Returned 1056768)) None
+    ∷ kernel_step 0 (Protect 1052672 8192 r) (Ok (Returned 0)) (Some (plain 256 257 rw ∷ plain 257 259 r ∷ []))
     ∷ []
 
 -- limit_rights
 abbrev pub limit_rights_by_linux : List Step
 limit_rights_by_linux =
-    step 0 (Map 1048576 8192 rw 50 (negsuc 0) 0) (Ok (Returned 1048576)) None
-    ∷ step 0 (Map 1056768 4096 none 50 (negsuc 0) 0) (Ok (Returned 1056768)) None
-    ∷ step 0 (Protect 1052672 8192 r) (Err 12) (Some (plain 256 258 rw ∷ plain 258 259 none ∷ []))
+    kernel_step 0 (Map 1048576 8192 rw 50 (negsuc 0) 0) (Ok (Returned 1048576)) None
+    ∷ kernel_step 0 (Map 1056768 4096 none 50 (negsuc 0) 0) (Ok (Returned 1056768)) None
+    ∷ kernel_step 0 (Protect 1052672 8192 r) (Err 12) (Some (plain 256 258 rw ∷ plain 258 259 none ∷ []))
     ∷ []
 
 -- limit_rights: what the profile answers, and Linux
@@ -386,17 +386,17 @@ pub record LimitRights : Type 0 where
 -- limit_rights_hole
 abbrev pub limit_rights_hole_by_profile : List Step
 limit_rights_hole_by_profile =
-    step 0 (Map 1048576 8192 rw 50 (negsuc 0) 0) (Ok (Returned 1048576)) None
-    ∷ step 0 (Map 1056768 4096 none 50 (negsuc 0) 0) (Ok (Returned 1056768)) None
-    ∷ step 0 (Protect 1052672 12288 r) (Err 12) (Some (plain 256 257 rw ∷ plain 257 259 r ∷ []))
+    kernel_step 0 (Map 1048576 8192 rw 50 (negsuc 0) 0) (Ok (Returned 1048576)) None
+    ∷ kernel_step 0 (Map 1056768 4096 none 50 (negsuc 0) 0) (Ok (Returned 1056768)) None
+    ∷ kernel_step 0 (Protect 1052672 12288 r) (Err 12) (Some (plain 256 257 rw ∷ plain 257 259 r ∷ []))
     ∷ []
 
 -- limit_rights_hole
 abbrev pub limit_rights_hole_by_linux : List Step
 limit_rights_hole_by_linux =
-    step 0 (Map 1048576 8192 rw 50 (negsuc 0) 0) (Ok (Returned 1048576)) None
-    ∷ step 0 (Map 1056768 4096 none 50 (negsuc 0) 0) (Ok (Returned 1056768)) None
-    ∷ step 0 (Protect 1052672 12288 r) (Err 12) (Some (plain 256 258 rw ∷ plain 258 259 none ∷ []))
+    kernel_step 0 (Map 1048576 8192 rw 50 (negsuc 0) 0) (Ok (Returned 1048576)) None
+    ∷ kernel_step 0 (Map 1056768 4096 none 50 (negsuc 0) 0) (Ok (Returned 1056768)) None
+    ∷ kernel_step 0 (Protect 1052672 12288 r) (Err 12) (Some (plain 256 258 rw ∷ plain 258 259 none ∷ []))
     ∷ []
 
 -- limit_rights_hole: what the profile answers, and Linux

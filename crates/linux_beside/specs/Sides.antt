@@ -23,15 +23,15 @@ use Rattle.linux_rules.specs.declared.verdict.LinuxVerdict.TheVariants.{MapErr, 
 use Rattle.linux_rules.specs.Steps.{MapsLine, Operation, Map, Unmap, Protect, Remap, Break, Seal, Touch, Fork, Answer, Returned, Serves, Signal, Step}
 
 -- the number of an error
-abbrev pub number_of : Errno → ℕ
-number_of Eperm = EPERM
-number_of Ebadf = EBADF
-number_of Enomem = ENOMEM
-number_of Eacces = EACCES
-number_of Efault = EFAULT
-number_of Eexist = EEXIST
-number_of Einval = EINVAL
-number_of Eoverflow = EOVERFLOW
+abbrev pub errno_number : Errno → ℕ
+errno_number Eperm = EPERM
+errno_number Ebadf = EBADF
+errno_number Enomem = ENOMEM
+errno_number Eacces = EACCES
+errno_number Efault = EFAULT
+errno_number Eexist = EEXIST
+errno_number Einval = EINVAL
+errno_number Eoverflow = EOVERFLOW
 
 -- that an area serves an access
 abbrev pub served_by : Record → ℕ → Answer
@@ -41,15 +41,15 @@ served_by area index = Serves area.span.lo area.span.hi area.attr.prot area.attr
 abbrev pub reply_of : Reply → Result Answer ℕ
 reply_of (Addr address) = Ok (Returned address)
 reply_of Zero = Ok (Returned 0)
-reply_of (Refused error) = Err (number_of error)
+reply_of (Refused error) = Err (errno_number error)
 reply_of (Grown area index) = Ok (served_by area index)
 
 -- a verdict of the profile
-abbrev pub answer_of : Verdict → Answer
-answer_of (answers.Served area index) = served_by area index
-answer_of answers.MapErr = Signal MapErr
-answer_of answers.AccErr = Signal AccErr
-answer_of answers.BusErr = Signal BusErr
+abbrev pub verdict_answer : Verdict → Answer
+verdict_answer (answers.Served area index) = served_by area index
+verdict_answer answers.MapErr = Signal MapErr
+verdict_answer answers.AccErr = Signal AccErr
+verdict_answer answers.BusErr = Signal BusErr
 
 -- an outcome as a space and an answer
 pub record Answered : Type 0 where
@@ -57,29 +57,29 @@ pub record Answered : Type 0 where
   pub answer : Result Answer ℕ
 
 -- a call of the profile
-abbrev pub called : Outcome → Answered
-called outcome = record { space = outcome.space; answer = reply_of outcome.reply }
+abbrev pub call_answer : Outcome → Answered
+call_answer outcome = record { space = outcome.space; answer = reply_of outcome.reply }
 
 -- an access, which may grow an area
 abbrev pub accessed : Config → AddressSpace → ℕ → Access → Answered
-accessed config space page access = if grows config space.areas page access then called (touch config space page access)
-    else record { space = space; answer = Ok (answer_of (verdict config space.areas page access)) }
+accessed config space page access = if grows config space.areas page access then call_answer (touch config space page access)
+    else record { space = space; answer = Ok (verdict_answer (verdict config space.areas page access)) }
 
 -- an operation in one address space; a fork returns 0
-abbrev pub operated : Config → AddressSpace → Operation → Answered
-operated config space (Map addr len prot flags fd offset) = called (profile.step config space
+abbrev pub operation_answer : Config → AddressSpace → Operation → Answered
+operation_answer config space (Map addr len prot flags fd offset) = call_answer (profile.step config space
     (call.Mmap (record { addr = addr; len = len; prot = prot; flags = flags; fd = fd; offset = offset })))
-operated config space (Unmap addr len) = called (profile.step config space (call.Munmap addr len))
-operated config space (Protect addr len prot) = called (profile.step config space (call.Mprotect addr len prot))
-operated config space (Remap addr old_len new_len flags new_addr) = called (profile.step config space (call.Mremap addr old_len new_len flags new_addr))
-operated config space (Break address) = called (profile.step config space (call.Brk address))
-operated config space (Seal addr len flags) = called (profile.step config space (call.Mseal addr len flags))
-operated config space (Touch page access) = accessed config space page access
-operated config space (Fork number) = record { space = space; answer = Ok (Returned 0) }
+operation_answer config space (Unmap addr len) = call_answer (profile.step config space (call.Munmap addr len))
+operation_answer config space (Protect addr len prot) = call_answer (profile.step config space (call.Mprotect addr len prot))
+operation_answer config space (Remap addr old_len new_len flags new_addr) = call_answer (profile.step config space (call.Mremap addr old_len new_len flags new_addr))
+operation_answer config space (Break address) = call_answer (profile.step config space (call.Brk address))
+operation_answer config space (Seal addr len flags) = call_answer (profile.step config space (call.Mseal addr len flags))
+operation_answer config space (Touch page access) = accessed config space page access
+operation_answer config space (Fork number) = record { space = space; answer = Ok (Returned 0) }
 
 -- the line of an area
-abbrev pub maps_line : Record → MapsLine
-maps_line area = record {
+abbrev pub line_of_area : Record → MapsLine
+line_of_area area = record {
   lo = area.span.lo;
   hi = area.span.hi;
   access = area.attr.prot;
@@ -90,24 +90,24 @@ maps_line area = record {
 }
 
 -- the address spaces by number, with another one at a number
-abbrev pub with_space : (ℕ → AddressSpace) → ℕ → AddressSpace → ℕ → AddressSpace
-with_space spaces number space other = if nat_eq other number then space else spaces other
+abbrev pub profile_with_space : (ℕ → AddressSpace) → ℕ → AddressSpace → ℕ → AddressSpace
+profile_with_space spaces number space other = if nat_eq other number then space else spaces other
 
 -- the address spaces with a child, if the operation is a fork
-abbrev pub with_child : (ℕ → AddressSpace) → AddressSpace → Operation → ℕ → AddressSpace
-with_child spaces parent (Fork number) = with_space spaces number parent
-with_child spaces parent _ = spaces
+abbrev pub profile_with_child : (ℕ → AddressSpace) → AddressSpace → Operation → ℕ → AddressSpace
+profile_with_child spaces parent (Fork number) = profile_with_space spaces number parent
+profile_with_child spaces parent _ = spaces
 
 -- the steps with the answers and lists that the profile gives
-abbrev pub replayed : Config → (ℕ → AddressSpace) → List Step → List Step
-replayed config spaces [] = []
-replayed config spaces (step ∷ steps) = let did = operated config (spaces step.place) step.operation in
-    record step { answer = did.answer; maps = option_map (λ read. map maps_line did.space.areas) step.maps }
-    ∷ replayed config (with_child (with_space spaces step.place did.space) did.space step.operation) steps
+abbrev pub profile_replayed : Config → (ℕ → AddressSpace) → List Step → List Step
+profile_replayed config spaces [] = []
+profile_replayed config spaces (step ∷ steps) = let did = operation_answer config (spaces step.place) step.operation in
+    record step { answer = did.answer; maps = option_map (λ read. map line_of_area did.space.areas) step.maps }
+    ∷ profile_replayed config (profile_with_child (profile_with_space spaces step.place did.space) did.space step.operation) steps
 
 -- The profile gives these answers and lists.
 abbrev pub IsByProfile : Config → List Step → Type 0
-IsByProfile config steps = replayed config (λ number. profile.opening config) steps ≡ steps
+IsByProfile config steps = profile_replayed config (λ number. profile.opening config) steps ≡ steps
 
 -- a kernel of a version, on the machine on which the rows were recorded: 6,170,807 pages of memory, protection keys, and huge pages only where
 -- a program asks for them. Its files lie on a disk or in memory.

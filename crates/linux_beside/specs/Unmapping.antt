@@ -13,11 +13,7 @@ use Rattle.linux_rules.specs.Munmap.{munmap}
 use Rattle.linux_beside.specs.Forgetting.{forgotten}
 use Rattle.linux_beside.specs.InOrder.{AreInOrder}
 
--- munmap leaves a list in order, also where it's refused halfway
-abbrev pub KeepsOrder : Type 0
-KeepsOrder = (kernel : Kernel) (space : LinuxSpace) (addr len : ℕ) → AreInOrder space.areas → AreInOrder (munmap kernel addr len space).space.areas
-
--- where it succeeds, it unmaps the pages of its range, and keeps every other page
+-- munmap that succeeds unmaps the pages of its range, and keeps every other page
 abbrev pub UnmapsItsRange : Type 0
 UnmapsItsRange = (kernel : Kernel) (space : LinuxSpace) (addr len page : ℕ) → AreInOrder space.areas → len < 2 ^ 64
     → (munmap kernel addr len space).result ≡ Ok tt

@@ -28,8 +28,8 @@ abbrev pub vmas_in : List Vma → ℕ → ℕ → List Vma
 vmas_in areas lo hi = filter (λ vma. nat_lt vma.lo hi && nat_lt lo vma.hi) areas
 
 -- vma_iter_clear: the list without the area that begins at a page
-abbrev pub without : ℕ → List Vma → List Vma
-without page areas = filter (λ vma. not (nat_eq vma.lo page)) areas
+abbrev pub without_vma : ℕ → List Vma → List Vma
+without_vma page areas = filter (λ vma. not (nat_eq vma.lo page)) areas
 
 -- vma_iter_store: the list with one more area, in its place
 abbrev pub with_vma : Vma → List Vma → List Vma
@@ -38,7 +38,7 @@ with_vma vma (first ∷ areas) = if nat_lt first.lo vma.lo then first ∷ with_v
 
 -- the list with another area in the place of one
 abbrev pub replaced : Vma → Vma → List Vma → List Vma
-replaced old new areas = with_vma new (without old.lo areas)
+replaced old new areas = with_vma new (without_vma old.lo areas)
 
 -- the part of an area below a page
 abbrev pub lower_part : Vma → ℕ → Vma

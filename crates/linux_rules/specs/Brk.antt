@@ -1,5 +1,5 @@
 -- brk(2): mm/mmap.c, mm/vma.c. It never fails: after an error it returns the break as it is.
-use Rattle.std.specs.Prelude.{ℕ, ◌+◌, ◌-◌, ◌*◌, Bool, true, false, not, ◌&&◌, ◌||◌, if◌then◌else◌, nat_eq, nat_lt, nat_le, length, Option, Some, None, Ok}
+use Rattle.std.specs.Prelude.{ℕ, ◌+◌, ◌-◌, ◌*◌, ◌%◌, ◌^◌, Bool, true, false, not, ◌&&◌, ◌||◌, if◌then◌else◌, nat_eq, nat_lt, nat_le, length, Option, Some, None, Ok}
 use Rattle.std.specs.Option.{option_map_or}
 use Rattle.mm_types.specs.declared.config.TheConstants.{PAGE_SIZE}
 use Rattle.linux_rules.specs.declared.area.Vma.{Vma}
@@ -11,7 +11,7 @@ use Rattle.linux_rules.specs.Areas.{find_vma, vma_before, pages_of}
 use Rattle.linux_rules.specs.Doing.{Doing, ◌>>=◌, ◌>>◌, done, refuse_if, caught, areas_now}
 use Rattle.linux_rules.specs.Merging.{merge_new_range}
 use Rattle.linux_rules.specs.Mmap.{merged_or_new}
-use Rattle.linux_rules.specs.Munmap.{gather, remove}
+use Rattle.linux_rules.specs.Munmap.{gather_vmas, remove}
 use Rattle.linux_rules.specs.Searching.{GUARD, start_gap, get_unmapped_area}
 
 -- mm->brk: the break as it is
@@ -38,15 +38,15 @@ heap_flags = record {
 }
 
 -- whether an area begins below a page
-abbrev pub begins_below : ℕ → Option Vma → Bool
-begins_below page vma = option_map_or (λ vma. nat_lt vma.lo page) vma false
+abbrev pub next_begins_below : ℕ → Option Vma → Bool
+next_begins_below page vma = option_map_or (λ vma. nat_lt vma.lo page) vma false
 
 -- brk, shrinking: the pages between are unmapped, unless none of them is mapped (do_vmi_align_munmap)
 unfoldable pub lower_brk : Kernel → ℕ → ℕ → ℕ → Doing Unit
 lower_brk kernel address old new = do
   areas ← areas_now
-  refuse_if (not (begins_below old (find_vma areas new))) ENOMEM
-  gone ← gather kernel new old
+  refuse_if (not (next_begins_below old (find_vma areas new))) ENOMEM
+  gone ← gather_vmas kernel new old
   remove gone
   set_brk address
 
@@ -59,10 +59,11 @@ abbrev pub in_heap : Kernel → Option Vma → Option Vma
 in_heap kernel None = None
 in_heap kernel (Some below) = if nat_le (PAGE_SIZE * below.hi) kernel.config.heap then None else Some below
 
--- brk, growing, and do_brk_flags: the new pages join the area below, never one above
+-- brk, growing, and do_brk_flags: the new pages join the area below, never one above. Their number wraps in 64 bits, as the new break does in the
+-- last page of all addresses: then there is no place for so many.
 unfoldable pub raise_brk : Kernel → ℕ → ℕ → ℕ → Doing Unit
 raise_brk kernel address old new = do
-  place ← get_unmapped_area kernel (PAGE_SIZE * old) (new - old) true 0 false false
+  place ← get_unmapped_area kernel (PAGE_SIZE * old) ((new + 2 ^ 52 - old) % 2 ^ 52) true 0 false false
   areas ← areas_now
   refuse_if (is_too_near new (find_vma areas old)) ENOMEM
   refuse_if (nat_lt kernel.config.areas (length areas) || lacks_memory kernel (new - old)) ENOMEM

@@ -63,12 +63,12 @@ is_exec Exec = true
 is_exec _ = false
 
 -- access_error: a write needs its right, and any access needs some right
-abbrev pub is_denied : Vma → Access → Bool
-is_denied vma access = (is_write access && not vma.flags.access.write) || not (is_accessible vma)
+abbrev pub access_error : Vma → Access → Bool
+access_error vma access = (is_write access && not vma.flags.access.write) || not (is_accessible vma)
 
 -- handle_mm_fault, what it answers: past the end of the file, served, or no right to execute, which the page tables show
-unfoldable pub answered : Kernel → Vma → ℕ → Access → LinuxSpace → LinuxVerdict
-answered kernel vma page access space = let index = if nat_eq vma.file 0 then 0 else vma.pgoff + (page - vma.lo) in
+unfoldable pub fault_answer : Kernel → Vma → ℕ → Access → LinuxSpace → LinuxVerdict
+fault_answer kernel vma page access space = let index = if nat_eq vma.file 0 then 0 else vma.pgoff + (page - vma.lo) in
     if not (nat_eq vma.file 0) && nat_le (object_pages kernel space vma.file) index then BusErr
     else (if is_exec access && not vma.flags.access.exec then AccErr else Served vma index)
 
@@ -76,10 +76,10 @@ answered kernel vma page access space = let index = if nat_eq vma.file 0 then 0 
 -- write to a private area leaves an anon_vma, past the end of a file too
 unfoldable pub area_verdict : Kernel → Vma → ℕ → Access → Doing LinuxVerdict
 area_verdict kernel vma page access = if vma.flags.pkey && not (is_exec access) then done PkuErr
-    else (if is_denied vma access then done AccErr
+    else (if access_error vma access then done AccErr
     else (do
       after ← if (is_write access && not vma.flags.shared) || is_huge_fault kernel vma page then anon_vma_prepare vma else done vma
-      (λ space. done (answered kernel after page access space) space)))
+      (λ space. done (fault_answer kernel after page access space) space)))
 
 -- lock_mm_and_find_vma: the area that has the page, or one above that grows
 unfoldable pub area_for_fault : Kernel → ℕ → Option Vma → Doing Vma

@@ -13,8 +13,8 @@ forked_from number [] = []
 forked_from number (vma ∷ areas) = record vma { anon = option_map (λ anon. record { number = number; forked = true }) vma.anon } ∷ forked_from (number + 1) areas
 
 -- dup_mmap: the address space of the child
-unfoldable pub child_of : LinuxSpace → LinuxSpace
-child_of space = record space { areas = forked_from 0 space.areas; anons = length space.areas }
+unfoldable pub child_space : LinuxSpace → LinuxSpace
+child_space space = record space { areas = forked_from 0 space.areas; anons = length space.areas }
 
 -- dup_mmap: charges each accounted area anew, or fails
 unfoldable pub fork : Kernel → Doing Unit

@@ -1,11 +1,11 @@
--- What Linux 6.18.44 answered to 45 traces. Made by dev/make-linux-rules from suite/.
+-- What Linux 6.18.44 answered to 46 traces. Made by dev/make-linux-rules from suite/.
 use Rattle.std.specs.Prelude.{List, ◌∷◌, [], true, false, pos, negsuc, Some, None, Ok, Err}
 use Rattle.mm_types.specs.declared.area.Access.TheVariants.{Read, Write, Exec}
 use Rattle.linux_rules.specs.declared.kernel.Kernel.{Kernel}
 use Rattle.linux_rules.specs.declared.kernel.Vsyscall.TheVariants.{Xonly}
 use Rattle.linux_rules.specs.declared.verdict.LinuxVerdict.TheVariants.{MapErr, AccErr, PkuErr, BusErr}
 use Rattle.linux_rules.specs.Versions.{linux_6_18}
-use Rattle.linux_rules.specs.Steps.{Map, Unmap, Protect, Remap, Break, Seal, Touch, Fork, Returned, Serves, Signal, Step, none, r, w, x, rw, rx, rwx, plain, heap, filed, step, file_row, config}
+use Rattle.linux_rules.specs.Steps.{Map, Unmap, Protect, Remap, Break, Seal, Touch, Fork, Returned, Serves, Signal, Step, none, r, w, x, rw, rx, rwx, plain, heap, filed, kernel_step, file_row, config}
 use Rattle.linux_rules.specs.Recorded.{IsAsRecorded}
 
 -- brk_beside_plain_memory: the kernel
@@ -15,8 +15,18 @@ brk_beside_plain_memory_on = record { rules = linux_6_18; machine = record { low
 -- brk_beside_plain_memory: its answers
 abbrev pub brk_beside_plain_memory : List Step
 brk_beside_plain_memory =
-    step 0 (Map 1044480 4096 rw 50 (negsuc 0) 0) (Ok (Returned 1044480)) None
-    ∷ step 0 (Break 1052672) (Ok (Returned 1052672)) (Some (plain 255 256 rw ∷ heap 256 257 rw ∷ []))
+    kernel_step 0 (Map 1044480 4096 rw 50 (negsuc 0) 0) (Ok (Returned 1044480)) None
+    ∷ kernel_step 0 (Break 1052672) (Ok (Returned 1052672)) (Some (plain 255 256 rw ∷ heap 256 257 rw ∷ []))
+    ∷ []
+
+-- brk_greatest: the kernel
+abbrev pub brk_greatest_on : Kernel
+brk_greatest_on = record { rules = linux_6_18; machine = record { lowest_built = 16; memory = 6170807; stack = 8388608; has_keys = true; huge_always = false; files_are_huge = false; vsyscall = Xonly }; config = config 4096 140737354133504 65530 1048576 ([]) }
+
+-- brk_greatest: its answers
+abbrev pub brk_greatest : List Step
+brk_greatest =
+    kernel_step 0 (Break 18446744073709551615) (Ok (Returned 1048576)) (Some ([]))
     ∷ []
 
 -- files_later_write_of_a_shared_readable: the kernel
@@ -26,8 +36,8 @@ files_later_write_of_a_shared_readable_on = record { rules = linux_6_18; machine
 -- files_later_write_of_a_shared_readable: its answers
 abbrev pub files_later_write_of_a_shared_readable : List Step
 files_later_write_of_a_shared_readable =
-    step 0 (Map 0 8192 r 1 (pos 3) 0) (Ok (Returned 140737354125312)) None
-    ∷ step 0 (Protect 140737354125312 4096 rw) (Err 13) (Some (filed 34359705597 34359705599 r true 0 1 ∷ []))
+    kernel_step 0 (Map 0 8192 r 1 (pos 3) 0) (Ok (Returned 140737354125312)) None
+    ∷ kernel_step 0 (Protect 140737354125312 4096 rw) (Err 13) (Some (filed 34359705597 34359705599 r true 0 1 ∷ []))
     ∷ []
 
 -- files_shared_anonymous_split: the kernel
@@ -37,8 +47,8 @@ files_shared_anonymous_split_on = record { rules = linux_6_18; machine = record 
 -- files_shared_anonymous_split: its answers
 abbrev pub files_shared_anonymous_split : List Step
 files_shared_anonymous_split =
-    step 0 (Map 131072 12288 rw 49 (negsuc 0) 0) (Ok (Returned 131072)) None
-    ∷ step 0 (Unmap 135168 4096) (Ok (Returned 0)) (Some (filed 32 33 rw true 0 1 ∷ filed 34 35 rw true 8192 1 ∷ []))
+    kernel_step 0 (Map 131072 12288 rw 49 (negsuc 0) 0) (Ok (Returned 131072)) None
+    ∷ kernel_step 0 (Unmap 135168 4096) (Ok (Returned 0)) (Some (filed 32 33 rw true 0 1 ∷ filed 34 35 rw true 8192 1 ∷ []))
     ∷ []
 
 -- fork_eight: the kernel
@@ -48,15 +58,15 @@ fork_eight_on = record { rules = linux_6_18; machine = record { lowest_built = 1
 -- fork_eight: its answers
 abbrev pub fork_eight : List Step
 fork_eight =
-    step 0 (Fork 1) (Ok (Returned 0)) None
-    ∷ step 0 (Fork 2) (Ok (Returned 0)) None
-    ∷ step 0 (Fork 3) (Ok (Returned 0)) None
-    ∷ step 0 (Fork 4) (Ok (Returned 0)) None
-    ∷ step 0 (Fork 5) (Ok (Returned 0)) None
-    ∷ step 0 (Fork 6) (Ok (Returned 0)) None
-    ∷ step 0 (Fork 7) (Ok (Returned 0)) None
-    ∷ step 0 (Fork 8) (Ok (Returned 0)) (Some ([]))
-    ∷ step 8 (Touch 32 Read) (Ok (Signal MapErr)) (Some ([]))
+    kernel_step 0 (Fork 1) (Ok (Returned 0)) None
+    ∷ kernel_step 0 (Fork 2) (Ok (Returned 0)) None
+    ∷ kernel_step 0 (Fork 3) (Ok (Returned 0)) None
+    ∷ kernel_step 0 (Fork 4) (Ok (Returned 0)) None
+    ∷ kernel_step 0 (Fork 5) (Ok (Returned 0)) None
+    ∷ kernel_step 0 (Fork 6) (Ok (Returned 0)) None
+    ∷ kernel_step 0 (Fork 7) (Ok (Returned 0)) None
+    ∷ kernel_step 0 (Fork 8) (Ok (Returned 0)) (Some ([]))
+    ∷ kernel_step 8 (Touch 32 Read) (Ok (Signal MapErr)) (Some ([]))
     ∷ []
 
 -- fork_order_of_children: the kernel
@@ -66,10 +76,10 @@ fork_order_of_children_on = record { rules = linux_6_18; machine = record { lowe
 -- fork_order_of_children: its answers
 abbrev pub fork_order_of_children : List Step
 fork_order_of_children =
-    step 0 (Fork 9) (Ok (Returned 0)) None
-    ∷ step 0 (Fork 8) (Ok (Returned 0)) (Some ([]))
-    ∷ step 8 (Map 131072 4096 r 50 (negsuc 0) 0) (Ok (Returned 131072)) (Some (plain 32 33 r ∷ []))
-    ∷ step 9 (Map 196608 4096 r 50 (negsuc 0) 0) (Ok (Returned 196608)) (Some (plain 48 49 r ∷ []))
+    kernel_step 0 (Fork 9) (Ok (Returned 0)) None
+    ∷ kernel_step 0 (Fork 8) (Ok (Returned 0)) (Some ([]))
+    ∷ kernel_step 8 (Map 131072 4096 r 50 (negsuc 0) 0) (Ok (Returned 131072)) (Some (plain 32 33 r ∷ []))
+    ∷ kernel_step 9 (Map 196608 4096 r 50 (negsuc 0) 0) (Ok (Returned 196608)) (Some (plain 48 49 r ∷ []))
     ∷ []
 
 -- fork_two_children: the kernel
@@ -79,12 +89,12 @@ fork_two_children_on = record { rules = linux_6_18; machine = record { lowest_bu
 -- fork_two_children: its answers
 abbrev pub fork_two_children : List Step
 fork_two_children =
-    step 0 (Map 131072 4096 rw 50 (negsuc 0) 0) (Ok (Returned 131072)) None
-    ∷ step 0 (Fork 7) (Ok (Returned 0)) None
-    ∷ step 0 (Fork 8) (Ok (Returned 0)) (Some (plain 32 33 rw ∷ []))
-    ∷ step 7 (Protect 131072 4096 r) (Ok (Returned 0)) None
-    ∷ step 8 (Touch 32 Write) (Ok (Serves 32 33 rw false 0)) (Some (plain 32 33 rw ∷ []))
-    ∷ step 7 (Touch 32 Write) (Ok (Signal AccErr)) (Some (plain 32 33 r ∷ []))
+    kernel_step 0 (Map 131072 4096 rw 50 (negsuc 0) 0) (Ok (Returned 131072)) None
+    ∷ kernel_step 0 (Fork 7) (Ok (Returned 0)) None
+    ∷ kernel_step 0 (Fork 8) (Ok (Returned 0)) (Some (plain 32 33 rw ∷ []))
+    ∷ kernel_step 7 (Protect 131072 4096 r) (Ok (Returned 0)) None
+    ∷ kernel_step 8 (Touch 32 Write) (Ok (Serves 32 33 rw false 0)) (Some (plain 32 33 rw ∷ []))
+    ∷ kernel_step 7 (Touch 32 Write) (Ok (Signal AccErr)) (Some (plain 32 33 r ∷ []))
     ∷ []
 
 -- mseal_limit_comes_first: the kernel
@@ -94,9 +104,9 @@ mseal_limit_comes_first_on = record { rules = linux_6_18; machine = record { low
 -- mseal_limit_comes_first: its answers
 abbrev pub mseal_limit_comes_first : List Step
 mseal_limit_comes_first =
-    step 0 (Map 131072 12288 rw 50 (negsuc 0) 0) (Ok (Returned 131072)) None
-    ∷ step 0 (Seal 131072 12288 0) (Ok (Returned 0)) None
-    ∷ step 0 (Unmap 135168 4096) (Err 12) (Some (plain 32 35 rw ∷ []))
+    kernel_step 0 (Map 131072 12288 rw 50 (negsuc 0) 0) (Ok (Returned 131072)) None
+    ∷ kernel_step 0 (Seal 131072 12288 0) (Ok (Returned 0)) None
+    ∷ kernel_step 0 (Unmap 135168 4096) (Err 12) (Some (plain 32 35 rw ∷ []))
     ∷ []
 
 -- mseal_mprotect_odd_address: the kernel
@@ -106,9 +116,9 @@ mseal_mprotect_odd_address_on = record { rules = linux_6_18; machine = record { 
 -- mseal_mprotect_odd_address: its answers
 abbrev pub mseal_mprotect_odd_address : List Step
 mseal_mprotect_odd_address =
-    step 0 (Map 131072 8192 rw 50 (negsuc 0) 0) (Ok (Returned 131072)) None
-    ∷ step 0 (Seal 131072 8192 0) (Ok (Returned 0)) None
-    ∷ step 0 (Protect 131073 4096 r) (Err 22) (Some (plain 32 34 rw ∷ []))
+    kernel_step 0 (Map 131072 8192 rw 50 (negsuc 0) 0) (Ok (Returned 131072)) None
+    ∷ kernel_step 0 (Seal 131072 8192 0) (Ok (Returned 0)) None
+    ∷ kernel_step 0 (Protect 131073 4096 r) (Err 22) (Some (plain 32 34 rw ∷ []))
     ∷ []
 
 -- mseal_munmap_refused_otherwise: the kernel
@@ -118,10 +128,10 @@ mseal_munmap_refused_otherwise_on = record { rules = linux_6_18; machine = recor
 -- mseal_munmap_refused_otherwise: its answers
 abbrev pub mseal_munmap_refused_otherwise : List Step
 mseal_munmap_refused_otherwise =
-    step 0 (Map 131072 4096 rw 50 (negsuc 0) 0) (Ok (Returned 131072)) None
-    ∷ step 0 (Seal 131072 4096 0) (Ok (Returned 0)) None
-    ∷ step 0 (Unmap 131072 0) (Err 22) None
-    ∷ step 0 (Unmap 131073 4096) (Err 22) (Some (plain 32 33 rw ∷ []))
+    kernel_step 0 (Map 131072 4096 rw 50 (negsuc 0) 0) (Ok (Returned 131072)) None
+    ∷ kernel_step 0 (Seal 131072 4096 0) (Ok (Returned 0)) None
+    ∷ kernel_step 0 (Unmap 131072 0) (Err 22) None
+    ∷ kernel_step 0 (Unmap 131073 4096) (Err 22) (Some (plain 32 33 rw ∷ []))
     ∷ []
 
 -- mseal_part_then_all: the kernel
@@ -131,9 +141,9 @@ mseal_part_then_all_on = record { rules = linux_6_18; machine = record { lowest_
 -- mseal_part_then_all: its answers
 abbrev pub mseal_part_then_all : List Step
 mseal_part_then_all =
-    step 0 (Map 131072 12288 rw 50 (negsuc 0) 0) (Ok (Returned 131072)) None
-    ∷ step 0 (Seal 135168 4096 0) (Ok (Returned 0)) None
-    ∷ step 0 (Seal 131072 12288 0) (Ok (Returned 0)) (Some (plain 32 35 rw ∷ []))
+    kernel_step 0 (Map 131072 12288 rw 50 (negsuc 0) 0) (Ok (Returned 131072)) None
+    ∷ kernel_step 0 (Seal 135168 4096 0) (Ok (Returned 0)) None
+    ∷ kernel_step 0 (Seal 131072 12288 0) (Ok (Returned 0)) (Some (plain 32 35 rw ∷ []))
     ∷ []
 
 -- munmap_limit_cut_at_the_end: the kernel
@@ -143,8 +153,8 @@ munmap_limit_cut_at_the_end_on = record { rules = linux_6_18; machine = record {
 -- munmap_limit_cut_at_the_end: its answers
 abbrev pub munmap_limit_cut_at_the_end : List Step
 munmap_limit_cut_at_the_end =
-    step 0 (Map 131072 12288 r 50 (negsuc 0) 0) (Ok (Returned 131072)) None
-    ∷ step 0 (Unmap 139264 4096) (Ok (Returned 0)) (Some (plain 32 34 r ∷ []))
+    kernel_step 0 (Map 131072 12288 r 50 (negsuc 0) 0) (Ok (Returned 131072)) None
+    ∷ kernel_step 0 (Unmap 139264 4096) (Ok (Returned 0)) (Some (plain 32 34 r ∷ []))
     ∷ []
 
 -- written_1: the kernel
@@ -154,36 +164,36 @@ written_1_on = record { rules = linux_6_18; machine = record { lowest_built = 16
 -- written_1: its answers
 abbrev pub written_1 : List Step
 written_1 =
-    step 0 (Map 1060864 12288 rw 50 (negsuc 0) 0) (Ok (Returned 1060864)) (Some (plain 259 262 rw ∷ []))
-    ∷ step 0 (Map 1060864 4096 rw 50 (negsuc 0) 0) (Ok (Returned 1060864)) (Some (plain 259 262 rw ∷ []))
-    ∷ step 0 (Map 1056768 4096 r 50 (negsuc 0) 0) (Ok (Returned 1056768)) (Some (plain 258 259 r ∷ plain 259 262 rw ∷ []))
-    ∷ step 0 (Map 1048576 8192 rw 50 (negsuc 0) 0) (Ok (Returned 1048576)) (Some (plain 256 258 rw ∷ plain 258 259 r ∷ plain 259 262 rw ∷ []))
-    ∷ step 0 (Remap 1048576 8192 8192 3 1638400) (Ok (Returned 1638400)) (Some (plain 258 259 r ∷ plain 259 262 rw ∷ plain 400 402 rw ∷ []))
-    ∷ step 0 (Map 1064960 16384 rw 50 (negsuc 0) 0) (Ok (Returned 1064960)) (Some (plain 258 259 r ∷ plain 259 264 rw ∷ plain 400 402 rw ∷ []))
-    ∷ step 0 (Touch 263 Exec) (Ok (Signal AccErr)) None
-    ∷ step 0 (Touch 258 Write) (Ok (Signal AccErr)) None
-    ∷ step 0 (Touch 260 Write) (Ok (Serves 259 264 rw false 0)) None
-    ∷ step 0 (Map 1056768 4096 r 50 (negsuc 0) 0) (Ok (Returned 1056768)) (Some (plain 258 259 r ∷ plain 259 264 rw ∷ plain 400 402 rw ∷ []))
-    ∷ step 0 (Map 1064960 8192 rw 50 (negsuc 0) 0) (Ok (Returned 1064960)) (Some (plain 258 259 r ∷ plain 259 264 rw ∷ plain 400 402 rw ∷ []))
-    ∷ step 0 (Remap 1638400 8192 8192 3 1048576) (Ok (Returned 1048576)) (Some (plain 256 258 rw ∷ plain 258 259 r ∷ plain 259 264 rw ∷ []))
-    ∷ step 0 (Touch 258 Write) (Ok (Signal AccErr)) None
-    ∷ step 0 (Touch 257 Read) (Ok (Serves 256 258 rw false 0)) None
-    ∷ step 0 (Touch 262 Read) (Ok (Serves 259 264 rw false 0)) None
-    ∷ step 0 (Map 1060864 16384 r 32818 (negsuc 0) 0) (Ok (Returned 1060864)) (Some (plain 256 258 rw ∷ plain 258 263 r ∷ plain 263 264 rw ∷ []))
-    ∷ step 0 (Protect 1056768 16384 r) (Ok (Returned 0)) (Some (plain 256 258 rw ∷ plain 258 263 r ∷ plain 263 264 rw ∷ []))
-    ∷ step 0 (Touch 257 Write) (Ok (Serves 256 258 rw false 0)) None
-    ∷ step 0 (Remap 1048576 8192 8192 3 1638400) (Ok (Returned 1638400)) (Some (plain 258 263 r ∷ plain 263 264 rw ∷ plain 400 402 rw ∷ []))
-    ∷ step 0 (Map 1060864 12288 r 50 (negsuc 0) 0) (Ok (Returned 1060864)) (Some (plain 258 263 r ∷ plain 263 264 rw ∷ plain 400 402 rw ∷ []))
-    ∷ step 0 (Map 1060864 17179869184 rw 50 (negsuc 0) 0) (Ok (Returned 1060864)) (Some (plain 258 259 r ∷ plain 259 4194563 rw ∷ []))
-    ∷ step 0 (Unmap 1056768 4096) (Ok (Returned 0)) (Some (plain 259 4194563 rw ∷ []))
-    ∷ step 0 (Map 1064960 34359738368 rw 50 (negsuc 0) 0) (Ok (Returned 1064960)) (Some (plain 259 8388868 rw ∷ []))
-    ∷ step 0 (Protect 1048576 16384 rw) (Err 12) (Some (plain 259 8388868 rw ∷ []))
-    ∷ step 0 (Touch 259 Read) (Ok (Serves 259 8388868 rw false 0)) None
-    ∷ step 0 (Unmap 1060864 8192) (Ok (Returned 0)) (Some (plain 261 8388868 rw ∷ []))
-    ∷ step 0 (Map 1052672 34359738368 rw 49 (negsuc 0) 0) (Err 12) (Some (plain 8388865 8388868 rw ∷ []))
-    ∷ step 0 (Protect 1048576 16384 r) (Err 12) (Some (plain 8388865 8388868 rw ∷ []))
-    ∷ step 0 (Remap 1064960 8192 8192 3 1572864) (Err 14) (Some (plain 8388865 8388868 rw ∷ []))
-    ∷ step 0 (Unmap 1060864 8192) (Ok (Returned 0)) (Some (plain 8388865 8388868 rw ∷ []))
+    kernel_step 0 (Map 1060864 12288 rw 50 (negsuc 0) 0) (Ok (Returned 1060864)) (Some (plain 259 262 rw ∷ []))
+    ∷ kernel_step 0 (Map 1060864 4096 rw 50 (negsuc 0) 0) (Ok (Returned 1060864)) (Some (plain 259 262 rw ∷ []))
+    ∷ kernel_step 0 (Map 1056768 4096 r 50 (negsuc 0) 0) (Ok (Returned 1056768)) (Some (plain 258 259 r ∷ plain 259 262 rw ∷ []))
+    ∷ kernel_step 0 (Map 1048576 8192 rw 50 (negsuc 0) 0) (Ok (Returned 1048576)) (Some (plain 256 258 rw ∷ plain 258 259 r ∷ plain 259 262 rw ∷ []))
+    ∷ kernel_step 0 (Remap 1048576 8192 8192 3 1638400) (Ok (Returned 1638400)) (Some (plain 258 259 r ∷ plain 259 262 rw ∷ plain 400 402 rw ∷ []))
+    ∷ kernel_step 0 (Map 1064960 16384 rw 50 (negsuc 0) 0) (Ok (Returned 1064960)) (Some (plain 258 259 r ∷ plain 259 264 rw ∷ plain 400 402 rw ∷ []))
+    ∷ kernel_step 0 (Touch 263 Exec) (Ok (Signal AccErr)) None
+    ∷ kernel_step 0 (Touch 258 Write) (Ok (Signal AccErr)) None
+    ∷ kernel_step 0 (Touch 260 Write) (Ok (Serves 259 264 rw false 0)) None
+    ∷ kernel_step 0 (Map 1056768 4096 r 50 (negsuc 0) 0) (Ok (Returned 1056768)) (Some (plain 258 259 r ∷ plain 259 264 rw ∷ plain 400 402 rw ∷ []))
+    ∷ kernel_step 0 (Map 1064960 8192 rw 50 (negsuc 0) 0) (Ok (Returned 1064960)) (Some (plain 258 259 r ∷ plain 259 264 rw ∷ plain 400 402 rw ∷ []))
+    ∷ kernel_step 0 (Remap 1638400 8192 8192 3 1048576) (Ok (Returned 1048576)) (Some (plain 256 258 rw ∷ plain 258 259 r ∷ plain 259 264 rw ∷ []))
+    ∷ kernel_step 0 (Touch 258 Write) (Ok (Signal AccErr)) None
+    ∷ kernel_step 0 (Touch 257 Read) (Ok (Serves 256 258 rw false 0)) None
+    ∷ kernel_step 0 (Touch 262 Read) (Ok (Serves 259 264 rw false 0)) None
+    ∷ kernel_step 0 (Map 1060864 16384 r 32818 (negsuc 0) 0) (Ok (Returned 1060864)) (Some (plain 256 258 rw ∷ plain 258 263 r ∷ plain 263 264 rw ∷ []))
+    ∷ kernel_step 0 (Protect 1056768 16384 r) (Ok (Returned 0)) (Some (plain 256 258 rw ∷ plain 258 263 r ∷ plain 263 264 rw ∷ []))
+    ∷ kernel_step 0 (Touch 257 Write) (Ok (Serves 256 258 rw false 0)) None
+    ∷ kernel_step 0 (Remap 1048576 8192 8192 3 1638400) (Ok (Returned 1638400)) (Some (plain 258 263 r ∷ plain 263 264 rw ∷ plain 400 402 rw ∷ []))
+    ∷ kernel_step 0 (Map 1060864 12288 r 50 (negsuc 0) 0) (Ok (Returned 1060864)) (Some (plain 258 263 r ∷ plain 263 264 rw ∷ plain 400 402 rw ∷ []))
+    ∷ kernel_step 0 (Map 1060864 17179869184 rw 50 (negsuc 0) 0) (Ok (Returned 1060864)) (Some (plain 258 259 r ∷ plain 259 4194563 rw ∷ []))
+    ∷ kernel_step 0 (Unmap 1056768 4096) (Ok (Returned 0)) (Some (plain 259 4194563 rw ∷ []))
+    ∷ kernel_step 0 (Map 1064960 34359738368 rw 50 (negsuc 0) 0) (Ok (Returned 1064960)) (Some (plain 259 8388868 rw ∷ []))
+    ∷ kernel_step 0 (Protect 1048576 16384 rw) (Err 12) (Some (plain 259 8388868 rw ∷ []))
+    ∷ kernel_step 0 (Touch 259 Read) (Ok (Serves 259 8388868 rw false 0)) None
+    ∷ kernel_step 0 (Unmap 1060864 8192) (Ok (Returned 0)) (Some (plain 261 8388868 rw ∷ []))
+    ∷ kernel_step 0 (Map 1052672 34359738368 rw 49 (negsuc 0) 0) (Err 12) (Some (plain 8388865 8388868 rw ∷ []))
+    ∷ kernel_step 0 (Protect 1048576 16384 r) (Err 12) (Some (plain 8388865 8388868 rw ∷ []))
+    ∷ kernel_step 0 (Remap 1064960 8192 8192 3 1572864) (Err 14) (Some (plain 8388865 8388868 rw ∷ []))
+    ∷ kernel_step 0 (Unmap 1060864 8192) (Ok (Returned 0)) (Some (plain 8388865 8388868 rw ∷ []))
     ∷ []
 
 -- written_limit_15: the kernel
@@ -193,36 +203,36 @@ written_limit_15_on = record { rules = linux_6_18; machine = record { lowest_bui
 -- written_limit_15: its answers
 abbrev pub written_limit_15 : List Step
 written_limit_15 =
-    step 0 (Map 1056768 4096 r 50 (negsuc 0) 0) (Ok (Returned 1056768)) (Some (plain 258 259 r ∷ []))
-    ∷ step 0 (Map 1048576 8192 rw 18 (pos 3) 0) (Ok (Returned 1048576)) (Some (filed 256 258 rw false 0 1 ∷ plain 258 259 r ∷ []))
-    ∷ step 0 (Fork 1) (Ok (Returned 0)) None
-    ∷ step 0 (Protect 1073152 8192 r) (Err 12) (Some (filed 256 258 rw false 0 1 ∷ plain 258 259 r ∷ []))
-    ∷ step 0 (Touch 256 Write) (Ok (Signal BusErr)) None
-    ∷ step 0 (Map 1060864 12288 rw 50 (negsuc 0) 0) (Ok (Returned 1060864)) (Some (filed 256 258 rw false 0 1 ∷ plain 258 259 r ∷ plain 259 262 rw ∷ []))
-    ∷ step 0 (Remap 1064960 12288 12288 3 1572864) (Ok (Returned 1572864)) (Some (filed 256 258 rw false 0 1 ∷ plain 258 259 r ∷ plain 259 260 rw ∷ plain 384 386 rw ∷ []))
-    ∷ step 0 (Protect 1060864 4096 rw) (Ok (Returned 0)) (Some (filed 256 258 rw false 0 1 ∷ plain 258 259 r ∷ plain 259 260 rw ∷ plain 384 386 rw ∷ []))
-    ∷ step 0 (Map 1052672 12288 r 18 (pos 3) 4096) (Ok (Returned 1052672)) (Some (filed 256 257 rw false 0 1 ∷ filed 257 260 r false 4096 1 ∷ plain 384 386 rw ∷ []))
-    ∷ step 1 (Touch 258 Write) (Ok (Signal AccErr)) None
-    ∷ step 1 (Touch 256 Write) (Ok (Signal BusErr)) None
-    ∷ step 0 (Touch 256 Write) (Ok (Signal BusErr)) None
-    ∷ step 1 (Touch 258 Write) (Ok (Signal AccErr)) None
-    ∷ step 1 (Map 1077248 4096 rw 50 (negsuc 0) 0) (Ok (Returned 1077248)) (Some (filed 256 258 rw false 0 1 ∷ plain 258 259 r ∷ plain 263 264 rw ∷ []))
-    ∷ step 1 (Remap 1572864 12288 12288 3 1064960) (Err 14) (Some (filed 256 258 rw false 0 1 ∷ plain 258 259 r ∷ plain 263 264 rw ∷ []))
-    ∷ step 0 (Protect 1069056 12288 r) (Err 12) (Some (filed 256 257 rw false 0 1 ∷ filed 257 260 r false 4096 1 ∷ plain 384 386 rw ∷ []))
-    ∷ step 0 (Remap 1069056 4096 4096 3 1609728) (Err 14) (Some (filed 256 257 rw false 0 1 ∷ filed 257 260 r false 4096 1 ∷ plain 384 386 rw ∷ []))
-    ∷ step 0 (Remap 1609728 4096 4096 3 1069056) (Err 14) (Some (filed 256 257 rw false 0 1 ∷ filed 257 260 r false 4096 1 ∷ plain 384 386 rw ∷ []))
-    ∷ step 0 (Touch 259 Read) (Ok (Signal BusErr)) None
-    ∷ step 1 (Remap 1056768 24576 24576 3 1609728) (Ok (Returned 1609728)) (Some (filed 256 258 rw false 0 1 ∷ plain 393 394 r ∷ plain 398 399 rw ∷ []))
-    ∷ step 1 (Map 1077248 16384 r 18 (pos 3) 28672) (Ok (Returned 1077248)) (Some (filed 256 258 rw false 0 1 ∷ filed 263 267 r false 28672 1 ∷ plain 393 394 r ∷ plain 398 399 rw ∷ []))
-    ∷ step 1 (Touch 265 Write) (Ok (Signal AccErr)) None
-    ∷ step 0 (Fork 2) (Ok (Returned 0)) None
-    ∷ step 2 (Remap 1609728 24576 24576 3 1056768) (Err 14) (Some (filed 256 257 rw false 0 1 ∷ filed 257 260 r false 4096 1 ∷ plain 384 386 rw ∷ []))
-    ∷ step 1 (Map 1060864 16384 r 18 (pos 3) 12288) (Ok (Returned 1060864)) (Some (filed 256 258 rw false 0 1 ∷ filed 259 267 r false 12288 1 ∷ plain 393 394 r ∷ plain 398 399 rw ∷ []))
-    ∷ step 0 (Map 1069056 8192 rw 18 (pos 3) 20480) (Ok (Returned 1069056)) (Some (filed 256 257 rw false 0 1 ∷ filed 257 260 r false 4096 1 ∷ filed 261 263 rw false 20480 1 ∷ plain 384 386 rw ∷ []))
-    ∷ step 2 (Map 1077248 12288 rw 18 (pos 3) 28672) (Ok (Returned 1077248)) (Some (filed 256 257 rw false 0 1 ∷ filed 257 260 r false 4096 1 ∷ filed 263 266 rw false 28672 1 ∷ plain 384 386 rw ∷ []))
-    ∷ step 1 (Protect 1056768 4096 r) (Err 12) (Some (filed 256 258 rw false 0 1 ∷ filed 259 267 r false 12288 1 ∷ plain 393 394 r ∷ plain 398 399 rw ∷ []))
-    ∷ step 1 (Touch 262 Write) (Ok (Signal AccErr)) (Some (filed 256 258 rw false 0 1 ∷ filed 259 267 r false 12288 1 ∷ plain 393 394 r ∷ plain 398 399 rw ∷ []))
-    ∷ step 2 (Touch 257 Write) (Ok (Signal AccErr)) (Some (filed 256 257 rw false 0 1 ∷ filed 257 260 r false 4096 1 ∷ filed 263 266 rw false 28672 1 ∷ plain 384 386 rw ∷ []))
+    kernel_step 0 (Map 1056768 4096 r 50 (negsuc 0) 0) (Ok (Returned 1056768)) (Some (plain 258 259 r ∷ []))
+    ∷ kernel_step 0 (Map 1048576 8192 rw 18 (pos 3) 0) (Ok (Returned 1048576)) (Some (filed 256 258 rw false 0 1 ∷ plain 258 259 r ∷ []))
+    ∷ kernel_step 0 (Fork 1) (Ok (Returned 0)) None
+    ∷ kernel_step 0 (Protect 1073152 8192 r) (Err 12) (Some (filed 256 258 rw false 0 1 ∷ plain 258 259 r ∷ []))
+    ∷ kernel_step 0 (Touch 256 Write) (Ok (Signal BusErr)) None
+    ∷ kernel_step 0 (Map 1060864 12288 rw 50 (negsuc 0) 0) (Ok (Returned 1060864)) (Some (filed 256 258 rw false 0 1 ∷ plain 258 259 r ∷ plain 259 262 rw ∷ []))
+    ∷ kernel_step 0 (Remap 1064960 12288 12288 3 1572864) (Ok (Returned 1572864)) (Some (filed 256 258 rw false 0 1 ∷ plain 258 259 r ∷ plain 259 260 rw ∷ plain 384 386 rw ∷ []))
+    ∷ kernel_step 0 (Protect 1060864 4096 rw) (Ok (Returned 0)) (Some (filed 256 258 rw false 0 1 ∷ plain 258 259 r ∷ plain 259 260 rw ∷ plain 384 386 rw ∷ []))
+    ∷ kernel_step 0 (Map 1052672 12288 r 18 (pos 3) 4096) (Ok (Returned 1052672)) (Some (filed 256 257 rw false 0 1 ∷ filed 257 260 r false 4096 1 ∷ plain 384 386 rw ∷ []))
+    ∷ kernel_step 1 (Touch 258 Write) (Ok (Signal AccErr)) None
+    ∷ kernel_step 1 (Touch 256 Write) (Ok (Signal BusErr)) None
+    ∷ kernel_step 0 (Touch 256 Write) (Ok (Signal BusErr)) None
+    ∷ kernel_step 1 (Touch 258 Write) (Ok (Signal AccErr)) None
+    ∷ kernel_step 1 (Map 1077248 4096 rw 50 (negsuc 0) 0) (Ok (Returned 1077248)) (Some (filed 256 258 rw false 0 1 ∷ plain 258 259 r ∷ plain 263 264 rw ∷ []))
+    ∷ kernel_step 1 (Remap 1572864 12288 12288 3 1064960) (Err 14) (Some (filed 256 258 rw false 0 1 ∷ plain 258 259 r ∷ plain 263 264 rw ∷ []))
+    ∷ kernel_step 0 (Protect 1069056 12288 r) (Err 12) (Some (filed 256 257 rw false 0 1 ∷ filed 257 260 r false 4096 1 ∷ plain 384 386 rw ∷ []))
+    ∷ kernel_step 0 (Remap 1069056 4096 4096 3 1609728) (Err 14) (Some (filed 256 257 rw false 0 1 ∷ filed 257 260 r false 4096 1 ∷ plain 384 386 rw ∷ []))
+    ∷ kernel_step 0 (Remap 1609728 4096 4096 3 1069056) (Err 14) (Some (filed 256 257 rw false 0 1 ∷ filed 257 260 r false 4096 1 ∷ plain 384 386 rw ∷ []))
+    ∷ kernel_step 0 (Touch 259 Read) (Ok (Signal BusErr)) None
+    ∷ kernel_step 1 (Remap 1056768 24576 24576 3 1609728) (Ok (Returned 1609728)) (Some (filed 256 258 rw false 0 1 ∷ plain 393 394 r ∷ plain 398 399 rw ∷ []))
+    ∷ kernel_step 1 (Map 1077248 16384 r 18 (pos 3) 28672) (Ok (Returned 1077248)) (Some (filed 256 258 rw false 0 1 ∷ filed 263 267 r false 28672 1 ∷ plain 393 394 r ∷ plain 398 399 rw ∷ []))
+    ∷ kernel_step 1 (Touch 265 Write) (Ok (Signal AccErr)) None
+    ∷ kernel_step 0 (Fork 2) (Ok (Returned 0)) None
+    ∷ kernel_step 2 (Remap 1609728 24576 24576 3 1056768) (Err 14) (Some (filed 256 257 rw false 0 1 ∷ filed 257 260 r false 4096 1 ∷ plain 384 386 rw ∷ []))
+    ∷ kernel_step 1 (Map 1060864 16384 r 18 (pos 3) 12288) (Ok (Returned 1060864)) (Some (filed 256 258 rw false 0 1 ∷ filed 259 267 r false 12288 1 ∷ plain 393 394 r ∷ plain 398 399 rw ∷ []))
+    ∷ kernel_step 0 (Map 1069056 8192 rw 18 (pos 3) 20480) (Ok (Returned 1069056)) (Some (filed 256 257 rw false 0 1 ∷ filed 257 260 r false 4096 1 ∷ filed 261 263 rw false 20480 1 ∷ plain 384 386 rw ∷ []))
+    ∷ kernel_step 2 (Map 1077248 12288 rw 18 (pos 3) 28672) (Ok (Returned 1077248)) (Some (filed 256 257 rw false 0 1 ∷ filed 257 260 r false 4096 1 ∷ filed 263 266 rw false 28672 1 ∷ plain 384 386 rw ∷ []))
+    ∷ kernel_step 1 (Protect 1056768 4096 r) (Err 12) (Some (filed 256 258 rw false 0 1 ∷ filed 259 267 r false 12288 1 ∷ plain 393 394 r ∷ plain 398 399 rw ∷ []))
+    ∷ kernel_step 1 (Touch 262 Write) (Ok (Signal AccErr)) (Some (filed 256 258 rw false 0 1 ∷ filed 259 267 r false 12288 1 ∷ plain 393 394 r ∷ plain 398 399 rw ∷ []))
+    ∷ kernel_step 2 (Touch 257 Write) (Ok (Signal AccErr)) (Some (filed 256 257 rw false 0 1 ∷ filed 257 260 r false 4096 1 ∷ filed 263 266 rw false 28672 1 ∷ plain 384 386 rw ∷ []))
     ∷ []
 
 -- hard_limit_37: the kernel
@@ -232,36 +242,36 @@ hard_limit_37_on = record { rules = linux_6_18; machine = record { lowest_built 
 -- hard_limit_37: its answers
 abbrev pub hard_limit_37 : List Step
 hard_limit_37 =
-    step 0 (Map 1105920 12288 rw 50 (negsuc 0) 0) (Ok (Returned 1105920)) (Some (plain 270 273 rw ∷ []))
-    ∷ step 0 (Map 0 4096 rw 33 (negsuc 0) 0) (Ok (Returned 140737354129408)) (Some (plain 270 273 rw ∷ filed 34359705598 34359705599 rw true 0 4 ∷ []))
-    ∷ step 0 (Touch 271 Exec) (Ok (Signal AccErr)) None
-    ∷ step 0 (Map 1089536 12288 rw 50 (negsuc 0) 0) (Ok (Returned 1089536)) (Some (plain 266 269 rw ∷ plain 270 273 rw ∷ filed 34359705598 34359705599 rw true 0 4 ∷ []))
-    ∷ step 0 (Remap 1089536 12288 16384 1 0) (Ok (Returned 1089536)) (Some (plain 266 273 rw ∷ filed 34359705598 34359705599 rw true 0 4 ∷ []))
-    ∷ step 0 (Map 1077248 12288 r 50 (negsuc 0) 0) (Ok (Returned 1077248)) (Some (plain 263 266 r ∷ plain 266 273 rw ∷ filed 34359705598 34359705599 rw true 0 4 ∷ []))
-    ∷ step 0 (Remap 1089536 28672 28672 3 1110016) (Err 22) (Some (plain 263 266 r ∷ plain 266 273 rw ∷ filed 34359705598 34359705599 rw true 0 4 ∷ []))
-    ∷ step 0 (Seal 1089536 20480 0) (Ok (Returned 0)) (Some (plain 263 266 r ∷ plain 266 271 rw ∷ plain 271 273 rw ∷ filed 34359705598 34359705599 rw true 0 4 ∷ []))
-    ∷ step 0 (Remap 1114112 0 4096 1 0) (Err 22) (Some (plain 263 266 r ∷ plain 266 271 rw ∷ plain 271 273 rw ∷ filed 34359705598 34359705599 rw true 0 4 ∷ []))
-    ∷ step 0 (Protect 1077248 40960 rw) (Err 1) (Some (plain 263 266 rw ∷ plain 266 271 rw ∷ plain 271 273 rw ∷ filed 34359705598 34359705599 rw true 0 4 ∷ []))
-    ∷ step 0 (Protect 1077248 12288 rw) (Ok (Returned 0)) (Some (plain 263 266 rw ∷ plain 266 271 rw ∷ plain 271 273 rw ∷ filed 34359705598 34359705599 rw true 0 4 ∷ []))
-    ∷ step 0 (Protect 1089536 20480 r) (Err 1) (Some (plain 263 266 rw ∷ plain 266 271 rw ∷ plain 271 273 rw ∷ filed 34359705598 34359705599 rw true 0 4 ∷ []))
-    ∷ step 0 (Touch 270 Read) (Ok (Serves 266 271 rw false 0)) None
-    ∷ step 0 (Remap 1077248 0 12288 1 0) (Err 22) (Some (plain 263 266 rw ∷ plain 266 271 rw ∷ plain 271 273 rw ∷ filed 34359705598 34359705599 rw true 0 4 ∷ []))
-    ∷ step 0 (Touch 272 Exec) (Ok (Signal AccErr)) None
-    ∷ step 0 (Map 1097728 8192 r 16434 (negsuc 0) 0) (Err 1) (Some (plain 263 266 rw ∷ plain 266 271 rw ∷ plain 271 273 rw ∷ filed 34359705598 34359705599 rw true 0 4 ∷ []))
-    ∷ step 0 (Map 0 4096 rw 34 (negsuc 0) 0) (Ok (Returned 140737354125312)) (Some (plain 263 266 rw ∷ plain 266 271 rw ∷ plain 271 273 rw ∷ plain 34359705597 34359705598 rw ∷ filed 34359705598 34359705599 rw true 0 4 ∷ []))
-    ∷ step 0 (Map 0 8192 r 32801 (negsuc 0) 0) (Ok (Returned 140737354117120)) (Some (plain 263 266 rw ∷ plain 266 271 rw ∷ plain 271 273 rw ∷ filed 34359705595 34359705597 r true 0 5 ∷ plain 34359705597 34359705598 rw ∷ filed 34359705598 34359705599 rw true 0 4 ∷ []))
-    ∷ step 0 (Map 0 16384 r 34 (negsuc 0) 0) (Ok (Returned 140737354100736)) (Some (plain 263 266 rw ∷ plain 266 271 rw ∷ plain 271 273 rw ∷ plain 34359705591 34359705595 r ∷ filed 34359705595 34359705597 r true 0 5 ∷ plain 34359705597 34359705598 rw ∷ filed 34359705598 34359705599 rw true 0 4 ∷ []))
-    ∷ step 0 (Protect 1089536 4096 rw) (Err 1) (Some (plain 263 266 rw ∷ plain 266 271 rw ∷ plain 271 273 rw ∷ plain 34359705591 34359705595 r ∷ filed 34359705595 34359705597 r true 0 5 ∷ plain 34359705597 34359705598 rw ∷ filed 34359705598 34359705599 rw true 0 4 ∷ []))
-    ∷ step 0 (Touch 265 Write) (Ok (Serves 263 266 rw false 0)) None
-    ∷ step 0 (Remap 1089536 4096 4096 5 0) (Err 12) (Some (plain 263 266 rw ∷ plain 266 271 rw ∷ plain 271 273 rw ∷ plain 34359705591 34359705595 r ∷ filed 34359705595 34359705597 r true 0 5 ∷ plain 34359705597 34359705598 rw ∷ filed 34359705598 34359705599 rw true 0 4 ∷ []))
-    ∷ step 0 (Map 1085440 12288 rw 18 (pos 3) 12288) (Err 1) (Some (plain 263 265 rw ∷ plain 265 266 rw ∷ plain 266 271 rw ∷ plain 271 273 rw ∷ plain 34359705591 34359705595 r ∷ filed 34359705595 34359705597 r true 0 5 ∷ plain 34359705597 34359705598 rw ∷ filed 34359705598 34359705599 rw true 0 4 ∷ []))
-    ∷ step 0 (Protect 1089536 4096 r) (Err 1) (Some (plain 263 265 rw ∷ plain 265 266 rw ∷ plain 266 271 rw ∷ plain 271 273 rw ∷ plain 34359705591 34359705595 r ∷ filed 34359705595 34359705597 r true 0 5 ∷ plain 34359705597 34359705598 rw ∷ filed 34359705598 34359705599 rw true 0 4 ∷ []))
-    ∷ step 0 (Map 1105920 16384 rw 32787 (pos 3) 4096) (Err 13) (Some (plain 263 265 rw ∷ plain 265 266 rw ∷ plain 266 271 rw ∷ plain 271 273 rw ∷ plain 34359705591 34359705595 r ∷ filed 34359705595 34359705597 r true 0 5 ∷ plain 34359705597 34359705598 rw ∷ filed 34359705598 34359705599 rw true 0 4 ∷ []))
-    ∷ step 0 (Unmap 1089536 20480) (Err 1) (Some (plain 263 265 rw ∷ plain 265 266 rw ∷ plain 266 271 rw ∷ plain 271 273 rw ∷ plain 34359705591 34359705595 r ∷ filed 34359705595 34359705597 r true 0 5 ∷ plain 34359705597 34359705598 rw ∷ filed 34359705598 34359705599 rw true 0 4 ∷ []))
-    ∷ step 0 (Protect 1114112 4096 r) (Err 12) (Some (plain 263 265 rw ∷ plain 265 266 rw ∷ plain 266 271 rw ∷ plain 271 273 rw ∷ plain 34359705591 34359705595 r ∷ filed 34359705595 34359705597 r true 0 5 ∷ plain 34359705597 34359705598 rw ∷ filed 34359705598 34359705599 rw true 0 4 ∷ []))
-    ∷ step 0 (Touch 265 Write) (Ok (Serves 265 266 rw false 0)) None
-    ∷ step 0 (Seal 1089536 4096 0) (Ok (Returned 0)) (Some (plain 263 265 rw ∷ plain 265 266 rw ∷ plain 266 271 rw ∷ plain 271 273 rw ∷ plain 34359705591 34359705595 r ∷ filed 34359705595 34359705597 r true 0 5 ∷ plain 34359705597 34359705598 rw ∷ filed 34359705598 34359705599 rw true 0 4 ∷ []))
-    ∷ step 0 (Remap 1085440 4096 12288 1 0) (Err 12) (Some (plain 263 265 rw ∷ plain 265 266 rw ∷ plain 266 271 rw ∷ plain 271 273 rw ∷ plain 34359705591 34359705595 r ∷ filed 34359705595 34359705597 r true 0 5 ∷ plain 34359705597 34359705598 rw ∷ filed 34359705598 34359705599 rw true 0 4 ∷ []))
+    kernel_step 0 (Map 1105920 12288 rw 50 (negsuc 0) 0) (Ok (Returned 1105920)) (Some (plain 270 273 rw ∷ []))
+    ∷ kernel_step 0 (Map 0 4096 rw 33 (negsuc 0) 0) (Ok (Returned 140737354129408)) (Some (plain 270 273 rw ∷ filed 34359705598 34359705599 rw true 0 4 ∷ []))
+    ∷ kernel_step 0 (Touch 271 Exec) (Ok (Signal AccErr)) None
+    ∷ kernel_step 0 (Map 1089536 12288 rw 50 (negsuc 0) 0) (Ok (Returned 1089536)) (Some (plain 266 269 rw ∷ plain 270 273 rw ∷ filed 34359705598 34359705599 rw true 0 4 ∷ []))
+    ∷ kernel_step 0 (Remap 1089536 12288 16384 1 0) (Ok (Returned 1089536)) (Some (plain 266 273 rw ∷ filed 34359705598 34359705599 rw true 0 4 ∷ []))
+    ∷ kernel_step 0 (Map 1077248 12288 r 50 (negsuc 0) 0) (Ok (Returned 1077248)) (Some (plain 263 266 r ∷ plain 266 273 rw ∷ filed 34359705598 34359705599 rw true 0 4 ∷ []))
+    ∷ kernel_step 0 (Remap 1089536 28672 28672 3 1110016) (Err 22) (Some (plain 263 266 r ∷ plain 266 273 rw ∷ filed 34359705598 34359705599 rw true 0 4 ∷ []))
+    ∷ kernel_step 0 (Seal 1089536 20480 0) (Ok (Returned 0)) (Some (plain 263 266 r ∷ plain 266 271 rw ∷ plain 271 273 rw ∷ filed 34359705598 34359705599 rw true 0 4 ∷ []))
+    ∷ kernel_step 0 (Remap 1114112 0 4096 1 0) (Err 22) (Some (plain 263 266 r ∷ plain 266 271 rw ∷ plain 271 273 rw ∷ filed 34359705598 34359705599 rw true 0 4 ∷ []))
+    ∷ kernel_step 0 (Protect 1077248 40960 rw) (Err 1) (Some (plain 263 266 rw ∷ plain 266 271 rw ∷ plain 271 273 rw ∷ filed 34359705598 34359705599 rw true 0 4 ∷ []))
+    ∷ kernel_step 0 (Protect 1077248 12288 rw) (Ok (Returned 0)) (Some (plain 263 266 rw ∷ plain 266 271 rw ∷ plain 271 273 rw ∷ filed 34359705598 34359705599 rw true 0 4 ∷ []))
+    ∷ kernel_step 0 (Protect 1089536 20480 r) (Err 1) (Some (plain 263 266 rw ∷ plain 266 271 rw ∷ plain 271 273 rw ∷ filed 34359705598 34359705599 rw true 0 4 ∷ []))
+    ∷ kernel_step 0 (Touch 270 Read) (Ok (Serves 266 271 rw false 0)) None
+    ∷ kernel_step 0 (Remap 1077248 0 12288 1 0) (Err 22) (Some (plain 263 266 rw ∷ plain 266 271 rw ∷ plain 271 273 rw ∷ filed 34359705598 34359705599 rw true 0 4 ∷ []))
+    ∷ kernel_step 0 (Touch 272 Exec) (Ok (Signal AccErr)) None
+    ∷ kernel_step 0 (Map 1097728 8192 r 16434 (negsuc 0) 0) (Err 1) (Some (plain 263 266 rw ∷ plain 266 271 rw ∷ plain 271 273 rw ∷ filed 34359705598 34359705599 rw true 0 4 ∷ []))
+    ∷ kernel_step 0 (Map 0 4096 rw 34 (negsuc 0) 0) (Ok (Returned 140737354125312)) (Some (plain 263 266 rw ∷ plain 266 271 rw ∷ plain 271 273 rw ∷ plain 34359705597 34359705598 rw ∷ filed 34359705598 34359705599 rw true 0 4 ∷ []))
+    ∷ kernel_step 0 (Map 0 8192 r 32801 (negsuc 0) 0) (Ok (Returned 140737354117120)) (Some (plain 263 266 rw ∷ plain 266 271 rw ∷ plain 271 273 rw ∷ filed 34359705595 34359705597 r true 0 5 ∷ plain 34359705597 34359705598 rw ∷ filed 34359705598 34359705599 rw true 0 4 ∷ []))
+    ∷ kernel_step 0 (Map 0 16384 r 34 (negsuc 0) 0) (Ok (Returned 140737354100736)) (Some (plain 263 266 rw ∷ plain 266 271 rw ∷ plain 271 273 rw ∷ plain 34359705591 34359705595 r ∷ filed 34359705595 34359705597 r true 0 5 ∷ plain 34359705597 34359705598 rw ∷ filed 34359705598 34359705599 rw true 0 4 ∷ []))
+    ∷ kernel_step 0 (Protect 1089536 4096 rw) (Err 1) (Some (plain 263 266 rw ∷ plain 266 271 rw ∷ plain 271 273 rw ∷ plain 34359705591 34359705595 r ∷ filed 34359705595 34359705597 r true 0 5 ∷ plain 34359705597 34359705598 rw ∷ filed 34359705598 34359705599 rw true 0 4 ∷ []))
+    ∷ kernel_step 0 (Touch 265 Write) (Ok (Serves 263 266 rw false 0)) None
+    ∷ kernel_step 0 (Remap 1089536 4096 4096 5 0) (Err 12) (Some (plain 263 266 rw ∷ plain 266 271 rw ∷ plain 271 273 rw ∷ plain 34359705591 34359705595 r ∷ filed 34359705595 34359705597 r true 0 5 ∷ plain 34359705597 34359705598 rw ∷ filed 34359705598 34359705599 rw true 0 4 ∷ []))
+    ∷ kernel_step 0 (Map 1085440 12288 rw 18 (pos 3) 12288) (Err 1) (Some (plain 263 265 rw ∷ plain 265 266 rw ∷ plain 266 271 rw ∷ plain 271 273 rw ∷ plain 34359705591 34359705595 r ∷ filed 34359705595 34359705597 r true 0 5 ∷ plain 34359705597 34359705598 rw ∷ filed 34359705598 34359705599 rw true 0 4 ∷ []))
+    ∷ kernel_step 0 (Protect 1089536 4096 r) (Err 1) (Some (plain 263 265 rw ∷ plain 265 266 rw ∷ plain 266 271 rw ∷ plain 271 273 rw ∷ plain 34359705591 34359705595 r ∷ filed 34359705595 34359705597 r true 0 5 ∷ plain 34359705597 34359705598 rw ∷ filed 34359705598 34359705599 rw true 0 4 ∷ []))
+    ∷ kernel_step 0 (Map 1105920 16384 rw 32787 (pos 3) 4096) (Err 13) (Some (plain 263 265 rw ∷ plain 265 266 rw ∷ plain 266 271 rw ∷ plain 271 273 rw ∷ plain 34359705591 34359705595 r ∷ filed 34359705595 34359705597 r true 0 5 ∷ plain 34359705597 34359705598 rw ∷ filed 34359705598 34359705599 rw true 0 4 ∷ []))
+    ∷ kernel_step 0 (Unmap 1089536 20480) (Err 1) (Some (plain 263 265 rw ∷ plain 265 266 rw ∷ plain 266 271 rw ∷ plain 271 273 rw ∷ plain 34359705591 34359705595 r ∷ filed 34359705595 34359705597 r true 0 5 ∷ plain 34359705597 34359705598 rw ∷ filed 34359705598 34359705599 rw true 0 4 ∷ []))
+    ∷ kernel_step 0 (Protect 1114112 4096 r) (Err 12) (Some (plain 263 265 rw ∷ plain 265 266 rw ∷ plain 266 271 rw ∷ plain 271 273 rw ∷ plain 34359705591 34359705595 r ∷ filed 34359705595 34359705597 r true 0 5 ∷ plain 34359705597 34359705598 rw ∷ filed 34359705598 34359705599 rw true 0 4 ∷ []))
+    ∷ kernel_step 0 (Touch 265 Write) (Ok (Serves 265 266 rw false 0)) None
+    ∷ kernel_step 0 (Seal 1089536 4096 0) (Ok (Returned 0)) (Some (plain 263 265 rw ∷ plain 265 266 rw ∷ plain 266 271 rw ∷ plain 271 273 rw ∷ plain 34359705591 34359705595 r ∷ filed 34359705595 34359705597 r true 0 5 ∷ plain 34359705597 34359705598 rw ∷ filed 34359705598 34359705599 rw true 0 4 ∷ []))
+    ∷ kernel_step 0 (Remap 1085440 4096 12288 1 0) (Err 12) (Some (plain 263 265 rw ∷ plain 265 266 rw ∷ plain 266 271 rw ∷ plain 271 273 rw ∷ plain 34359705591 34359705595 r ∷ filed 34359705595 34359705597 r true 0 5 ∷ plain 34359705597 34359705598 rw ∷ filed 34359705598 34359705599 rw true 0 4 ∷ []))
     ∷ []
 
 -- hard_limit_69: the kernel
@@ -271,36 +281,36 @@ hard_limit_69_on = record { rules = linux_6_18; machine = record { lowest_built 
 -- hard_limit_69: its answers
 abbrev pub hard_limit_69 : List Step
 hard_limit_69 =
-    step 0 (Map 1064960 16384 rw 50 (negsuc 0) 0) (Ok (Returned 1064960)) (Some (heap 260 264 rw ∷ []))
-    ∷ step 0 (Map 1077248 12288 rw 34 (negsuc 0) 0) (Ok (Returned 140737354121216)) (Some (heap 260 264 rw ∷ plain 34359705596 34359705599 rw ∷ []))
-    ∷ step 0 (Touch 262 Write) (Ok (Serves 260 264 rw false 0)) None
-    ∷ step 0 (Break 1073152) (Ok (Returned 1069056)) (Some (heap 260 264 rw ∷ plain 34359705596 34359705599 rw ∷ []))
-    ∷ step 0 (Protect 1064960 16384 rw) (Ok (Returned 0)) (Some (heap 260 264 rw ∷ plain 34359705596 34359705599 rw ∷ []))
-    ∷ step 0 (Break 1081344) (Ok (Returned 1069056)) (Some (heap 260 264 rw ∷ plain 34359705596 34359705599 rw ∷ []))
-    ∷ step 0 (Remap 1064960 12288 4096 1 0) (Ok (Returned 1064960)) (Some (plain 260 261 rw ∷ plain 263 264 rw ∷ plain 34359705596 34359705599 rw ∷ []))
-    ∷ step 0 (Protect 1077248 4096 rw) (Ok (Returned 0)) (Some (plain 260 261 rw ∷ plain 263 264 rw ∷ plain 34359705596 34359705599 rw ∷ []))
-    ∷ step 0 (Unmap 1077248 4096) (Ok (Returned 0)) (Some (plain 260 261 rw ∷ plain 34359705596 34359705599 rw ∷ []))
-    ∷ step 0 (Map 140737354133504 8192 r 305 (negsuc 0) 0) (Err 22) (Some (plain 260 261 rw ∷ plain 34359705596 34359705599 rw ∷ []))
-    ∷ step 0 (Protect 1064960 4096 r) (Ok (Returned 0)) (Some (plain 260 261 r ∷ plain 34359705596 34359705599 rw ∷ []))
-    ∷ step 0 (Break 1085432) (Ok (Returned 1085432)) (Some (plain 260 261 r ∷ heap 261 265 rw ∷ plain 34359705596 34359705599 rw ∷ []))
-    ∷ step 0 (Map 1069056 4096 rw 50 (negsuc 0) 0) (Ok (Returned 1069056)) (Some (plain 260 261 r ∷ heap 261 265 rw ∷ plain 34359705596 34359705599 rw ∷ []))
-    ∷ step 0 (Touch 260 Write) (Ok (Signal AccErr)) None
-    ∷ step 0 (Break 1097728) (Ok (Returned 1097728)) (Some (plain 260 261 r ∷ heap 261 268 rw ∷ plain 34359705596 34359705599 rw ∷ []))
-    ∷ step 0 (Unmap 1064960 32768) (Ok (Returned 0)) (Some (plain 34359705596 34359705599 rw ∷ []))
-    ∷ step 0 (Protect 140737354129408 16384 rw) (Err 12) (Some (plain 34359705596 34359705599 rw ∷ []))
-    ∷ step 0 (Break 1085432) (Ok (Returned 1097728)) (Some (plain 34359705596 34359705599 rw ∷ []))
-    ∷ step 0 (Protect 140737354121216 12288 r) (Ok (Returned 0)) (Some (plain 34359705596 34359705599 r ∷ []))
-    ∷ step 0 (Touch 34359705598 Exec) (Ok (Signal AccErr)) None
-    ∷ step 0 (Protect 140737354121216 12288 rw) (Ok (Returned 0)) (Some (plain 34359705596 34359705599 rw ∷ []))
-    ∷ step 0 (Touch 275 Write) (Ok (Signal MapErr)) None
-    ∷ step 0 (Touch 34359705596 Write) (Ok (Serves 34359705596 34359705599 rw false 0)) None
-    ∷ step 0 (Map 1105920 12288 rw 50 (negsuc 0) 0) (Ok (Returned 1105920)) (Some (plain 270 273 rw ∷ plain 34359705596 34359705599 rw ∷ []))
-    ∷ step 0 (Break 1097736) (Ok (Returned 1097736)) (Some (heap 268 269 rw ∷ plain 270 273 rw ∷ plain 34359705596 34359705599 rw ∷ []))
-    ∷ step 0 (Touch 272 Read) (Ok (Serves 270 273 rw false 0)) None
-    ∷ step 0 (Break 1105928) (Ok (Returned 1097736)) (Some (heap 268 269 rw ∷ plain 270 273 rw ∷ plain 34359705596 34359705599 rw ∷ []))
-    ∷ step 0 (Protect 1097728 4096 r) (Ok (Returned 0)) (Some (heap 268 269 r ∷ plain 270 273 rw ∷ plain 34359705596 34359705599 rw ∷ []))
-    ∷ step 0 (Break 1101840) (Ok (Returned 1097736)) (Some (heap 268 269 r ∷ plain 270 273 rw ∷ plain 34359705596 34359705599 rw ∷ []))
-    ∷ step 0 (Touch 271 Read) (Ok (Serves 270 273 rw false 0)) (Some (heap 268 269 r ∷ plain 270 273 rw ∷ plain 34359705596 34359705599 rw ∷ []))
+    kernel_step 0 (Map 1064960 16384 rw 50 (negsuc 0) 0) (Ok (Returned 1064960)) (Some (heap 260 264 rw ∷ []))
+    ∷ kernel_step 0 (Map 1077248 12288 rw 34 (negsuc 0) 0) (Ok (Returned 140737354121216)) (Some (heap 260 264 rw ∷ plain 34359705596 34359705599 rw ∷ []))
+    ∷ kernel_step 0 (Touch 262 Write) (Ok (Serves 260 264 rw false 0)) None
+    ∷ kernel_step 0 (Break 1073152) (Ok (Returned 1069056)) (Some (heap 260 264 rw ∷ plain 34359705596 34359705599 rw ∷ []))
+    ∷ kernel_step 0 (Protect 1064960 16384 rw) (Ok (Returned 0)) (Some (heap 260 264 rw ∷ plain 34359705596 34359705599 rw ∷ []))
+    ∷ kernel_step 0 (Break 1081344) (Ok (Returned 1069056)) (Some (heap 260 264 rw ∷ plain 34359705596 34359705599 rw ∷ []))
+    ∷ kernel_step 0 (Remap 1064960 12288 4096 1 0) (Ok (Returned 1064960)) (Some (plain 260 261 rw ∷ plain 263 264 rw ∷ plain 34359705596 34359705599 rw ∷ []))
+    ∷ kernel_step 0 (Protect 1077248 4096 rw) (Ok (Returned 0)) (Some (plain 260 261 rw ∷ plain 263 264 rw ∷ plain 34359705596 34359705599 rw ∷ []))
+    ∷ kernel_step 0 (Unmap 1077248 4096) (Ok (Returned 0)) (Some (plain 260 261 rw ∷ plain 34359705596 34359705599 rw ∷ []))
+    ∷ kernel_step 0 (Map 140737354133504 8192 r 305 (negsuc 0) 0) (Err 22) (Some (plain 260 261 rw ∷ plain 34359705596 34359705599 rw ∷ []))
+    ∷ kernel_step 0 (Protect 1064960 4096 r) (Ok (Returned 0)) (Some (plain 260 261 r ∷ plain 34359705596 34359705599 rw ∷ []))
+    ∷ kernel_step 0 (Break 1085432) (Ok (Returned 1085432)) (Some (plain 260 261 r ∷ heap 261 265 rw ∷ plain 34359705596 34359705599 rw ∷ []))
+    ∷ kernel_step 0 (Map 1069056 4096 rw 50 (negsuc 0) 0) (Ok (Returned 1069056)) (Some (plain 260 261 r ∷ heap 261 265 rw ∷ plain 34359705596 34359705599 rw ∷ []))
+    ∷ kernel_step 0 (Touch 260 Write) (Ok (Signal AccErr)) None
+    ∷ kernel_step 0 (Break 1097728) (Ok (Returned 1097728)) (Some (plain 260 261 r ∷ heap 261 268 rw ∷ plain 34359705596 34359705599 rw ∷ []))
+    ∷ kernel_step 0 (Unmap 1064960 32768) (Ok (Returned 0)) (Some (plain 34359705596 34359705599 rw ∷ []))
+    ∷ kernel_step 0 (Protect 140737354129408 16384 rw) (Err 12) (Some (plain 34359705596 34359705599 rw ∷ []))
+    ∷ kernel_step 0 (Break 1085432) (Ok (Returned 1097728)) (Some (plain 34359705596 34359705599 rw ∷ []))
+    ∷ kernel_step 0 (Protect 140737354121216 12288 r) (Ok (Returned 0)) (Some (plain 34359705596 34359705599 r ∷ []))
+    ∷ kernel_step 0 (Touch 34359705598 Exec) (Ok (Signal AccErr)) None
+    ∷ kernel_step 0 (Protect 140737354121216 12288 rw) (Ok (Returned 0)) (Some (plain 34359705596 34359705599 rw ∷ []))
+    ∷ kernel_step 0 (Touch 275 Write) (Ok (Signal MapErr)) None
+    ∷ kernel_step 0 (Touch 34359705596 Write) (Ok (Serves 34359705596 34359705599 rw false 0)) None
+    ∷ kernel_step 0 (Map 1105920 12288 rw 50 (negsuc 0) 0) (Ok (Returned 1105920)) (Some (plain 270 273 rw ∷ plain 34359705596 34359705599 rw ∷ []))
+    ∷ kernel_step 0 (Break 1097736) (Ok (Returned 1097736)) (Some (heap 268 269 rw ∷ plain 270 273 rw ∷ plain 34359705596 34359705599 rw ∷ []))
+    ∷ kernel_step 0 (Touch 272 Read) (Ok (Serves 270 273 rw false 0)) None
+    ∷ kernel_step 0 (Break 1105928) (Ok (Returned 1097736)) (Some (heap 268 269 rw ∷ plain 270 273 rw ∷ plain 34359705596 34359705599 rw ∷ []))
+    ∷ kernel_step 0 (Protect 1097728 4096 r) (Ok (Returned 0)) (Some (heap 268 269 r ∷ plain 270 273 rw ∷ plain 34359705596 34359705599 rw ∷ []))
+    ∷ kernel_step 0 (Break 1101840) (Ok (Returned 1097736)) (Some (heap 268 269 r ∷ plain 270 273 rw ∷ plain 34359705596 34359705599 rw ∷ []))
+    ∷ kernel_step 0 (Touch 271 Read) (Ok (Serves 270 273 rw false 0)) (Some (heap 268 269 r ∷ plain 270 273 rw ∷ plain 34359705596 34359705599 rw ∷ []))
     ∷ []
 
 -- hard_80: the kernel
@@ -310,36 +320,36 @@ hard_80_on = record { rules = linux_6_18; machine = record { lowest_built = 16; 
 -- hard_80: its answers
 abbrev pub hard_80 : List Step
 hard_80 =
-    step 0 (Map 1048576 16384 r 33 (negsuc 0) 0) (Ok (Returned 1048576)) (Some (filed 256 260 r true 0 4 ∷ []))
-    ∷ step 0 (Map 1052672 2101248 rw 2 (pos 4) 0) (Err 13) (Some (filed 256 260 r true 0 4 ∷ []))
-    ∷ step 0 (Touch 258 Write) (Ok (Signal AccErr)) None
-    ∷ step 0 (Remap 1073152 20480 4194304 1 0) (Err 14) (Some (filed 256 260 r true 0 4 ∷ []))
-    ∷ step 0 (Unmap 1048576 24576) (Ok (Returned 0)) (Some ([]))
-    ∷ step 0 (Remap 1081344 0 20480 1 0) (Err 14) (Some ([]))
-    ∷ step 0 (Seal 1077248 8192 0) (Err 12) (Some ([]))
-    ∷ step 0 (Map 1093632 16384 rw 32818 (negsuc 0) 0) (Ok (Returned 1093632)) (Some (plain 267 271 rw ∷ []))
-    ∷ step 0 (Map 1077248 16384 rw 16434 (negsuc 0) 0) (Ok (Returned 1077248)) (Some (plain 263 267 rw ∷ plain 267 271 rw ∷ []))
-    ∷ step 0 (Remap 1077248 16384 24576 3 1105920) (Ok (Returned 1105920)) (Some (plain 267 270 rw ∷ plain 270 276 rw ∷ []))
-    ∷ step 0 (Map 0 2101248 r 16385 (pos 3) 0) (Ok (Returned 140737352032256)) (Some (plain 267 270 rw ∷ plain 270 276 rw ∷ filed 34359705086 34359705599 r true 0 1 ∷ []))
-    ∷ step 0 (Seal 1056768 12288 0) (Err 12) (Some (plain 267 270 rw ∷ plain 270 276 rw ∷ filed 34359705086 34359705599 r true 0 1 ∷ []))
-    ∷ step 0 (Map 1056768 4096 rw 16434 (negsuc 0) 0) (Ok (Returned 1056768)) (Some (plain 258 259 rw ∷ plain 267 270 rw ∷ plain 270 276 rw ∷ filed 34359705086 34359705599 r true 0 1 ∷ []))
-    ∷ step 0 (Map 0 8192 rw 1 (pos 3) 8192) (Ok (Returned 140737352024064)) (Some (plain 258 259 rw ∷ plain 267 270 rw ∷ plain 270 276 rw ∷ filed 34359705084 34359705086 rw true 8192 1 ∷ filed 34359705086 34359705599 r true 0 1 ∷ []))
-    ∷ step 0 (Seal 1105920 24576 0) (Ok (Returned 0)) (Some (plain 258 259 rw ∷ plain 267 270 rw ∷ plain 270 276 rw ∷ filed 34359705084 34359705086 rw true 8192 1 ∷ filed 34359705086 34359705599 r true 0 1 ∷ []))
-    ∷ step 0 (Protect 1056768 4096 r) (Ok (Returned 0)) (Some (plain 258 259 r ∷ plain 267 270 rw ∷ plain 270 276 rw ∷ filed 34359705084 34359705086 rw true 8192 1 ∷ filed 34359705086 34359705599 r true 0 1 ∷ []))
-    ∷ step 0 (Map 0 12288 r 34 (negsuc 0) 0) (Ok (Returned 140737352011776)) (Some (plain 258 259 r ∷ plain 267 270 rw ∷ plain 270 276 rw ∷ plain 34359705081 34359705084 r ∷ filed 34359705084 34359705086 rw true 8192 1 ∷ filed 34359705086 34359705599 r true 0 1 ∷ []))
-    ∷ step 0 (Map 0 8589934592 rw 34 (negsuc 0) 0) (Ok (Returned 140728760008704)) (Some (plain 258 259 r ∷ plain 267 270 rw ∷ plain 270 276 rw ∷ plain 34357607424 34359704576 rw ∷ plain 34359705081 34359705084 r ∷ filed 34359705084 34359705086 rw true 8192 1 ∷ filed 34359705086 34359705599 r true 0 1 ∷ []))
-    ∷ step 0 (Protect 1110016 24576 rw) (Err 1) (Some (plain 258 259 r ∷ plain 267 270 rw ∷ plain 270 276 rw ∷ plain 34357607424 34359704576 rw ∷ plain 34359705081 34359705084 r ∷ filed 34359705084 34359705086 rw true 8192 1 ∷ filed 34359705086 34359705599 r true 0 1 ∷ []))
-    ∷ step 0 (Map 1114112 8192 rw 32802 (negsuc 0) 0) (Ok (Returned 140737352003584)) (Some (plain 258 259 r ∷ plain 267 270 rw ∷ plain 270 276 rw ∷ plain 34357607424 34359704576 rw ∷ plain 34359705079 34359705081 rw ∷ plain 34359705081 34359705084 r ∷ filed 34359705084 34359705086 rw true 8192 1 ∷ filed 34359705086 34359705599 r true 0 1 ∷ []))
-    ∷ step 0 (Map 140737352024064 8192 r 50 (negsuc 0) 0) (Ok (Returned 140737352024064)) (Some (plain 258 259 r ∷ plain 267 270 rw ∷ plain 270 276 rw ∷ plain 34357607424 34359704576 rw ∷ plain 34359705079 34359705081 rw ∷ plain 34359705081 34359705086 r ∷ filed 34359705086 34359705599 r true 0 1 ∷ []))
-    ∷ step 0 (Unmap 1093632 8192) (Ok (Returned 0)) (Some (plain 258 259 r ∷ plain 269 270 rw ∷ plain 270 276 rw ∷ plain 34357607424 34359704576 rw ∷ plain 34359705079 34359705081 rw ∷ plain 34359705081 34359705086 r ∷ filed 34359705086 34359705599 r true 0 1 ∷ []))
-    ∷ step 0 (Remap 1110016 0 4096 3 1052672) (Err 1) (Some (plain 258 259 r ∷ plain 269 270 rw ∷ plain 270 276 rw ∷ plain 34357607424 34359704576 rw ∷ plain 34359705079 34359705081 rw ∷ plain 34359705081 34359705086 r ∷ filed 34359705086 34359705599 r true 0 1 ∷ []))
-    ∷ step 0 (Map 0 2097152 rw 34 (negsuc 0) 0) (Ok (Returned 140728757911552)) (Some (plain 258 259 r ∷ plain 269 270 rw ∷ plain 270 276 rw ∷ plain 34357606912 34359704576 rw ∷ plain 34359705079 34359705081 rw ∷ plain 34359705081 34359705086 r ∷ filed 34359705086 34359705599 r true 0 1 ∷ []))
-    ∷ step 0 (Seal 1101824 4096 0) (Ok (Returned 0)) (Some (plain 258 259 r ∷ plain 269 270 rw ∷ plain 270 276 rw ∷ plain 34357606912 34359704576 rw ∷ plain 34359705079 34359705081 rw ∷ plain 34359705081 34359705086 r ∷ filed 34359705086 34359705599 r true 0 1 ∷ []))
-    ∷ step 0 (Touch 274 Write) (Ok (Serves 270 276 rw false 0)) None
-    ∷ step 0 (Remap 1101824 4096 4096 3 1105920) (Err 1) (Some (plain 258 259 r ∷ plain 269 270 rw ∷ plain 270 276 rw ∷ plain 34357606912 34359704576 rw ∷ plain 34359705079 34359705081 rw ∷ plain 34359705081 34359705086 r ∷ filed 34359705086 34359705599 r true 0 1 ∷ []))
-    ∷ step 0 (Map 1097728 16384 rw 50 (negsuc 0) 0) (Err 1) (Some (plain 258 259 r ∷ plain 269 270 rw ∷ plain 270 276 rw ∷ plain 34357606912 34359704576 rw ∷ plain 34359705079 34359705081 rw ∷ plain 34359705081 34359705086 r ∷ filed 34359705086 34359705599 r true 0 1 ∷ []))
-    ∷ step 0 (Remap 1105920 12288 12288 3 1114112) (Err 22) (Some (plain 258 259 r ∷ plain 269 270 rw ∷ plain 270 276 rw ∷ plain 34357606912 34359704576 rw ∷ plain 34359705079 34359705081 rw ∷ plain 34359705081 34359705086 r ∷ filed 34359705086 34359705599 r true 0 1 ∷ []))
-    ∷ step 0 (Map 1101824 16384 rw 50 (negsuc 0) 0) (Err 1) (Some (plain 258 259 r ∷ plain 269 270 rw ∷ plain 270 276 rw ∷ plain 34357606912 34359704576 rw ∷ plain 34359705079 34359705081 rw ∷ plain 34359705081 34359705086 r ∷ filed 34359705086 34359705599 r true 0 1 ∷ []))
+    kernel_step 0 (Map 1048576 16384 r 33 (negsuc 0) 0) (Ok (Returned 1048576)) (Some (filed 256 260 r true 0 4 ∷ []))
+    ∷ kernel_step 0 (Map 1052672 2101248 rw 2 (pos 4) 0) (Err 13) (Some (filed 256 260 r true 0 4 ∷ []))
+    ∷ kernel_step 0 (Touch 258 Write) (Ok (Signal AccErr)) None
+    ∷ kernel_step 0 (Remap 1073152 20480 4194304 1 0) (Err 14) (Some (filed 256 260 r true 0 4 ∷ []))
+    ∷ kernel_step 0 (Unmap 1048576 24576) (Ok (Returned 0)) (Some ([]))
+    ∷ kernel_step 0 (Remap 1081344 0 20480 1 0) (Err 14) (Some ([]))
+    ∷ kernel_step 0 (Seal 1077248 8192 0) (Err 12) (Some ([]))
+    ∷ kernel_step 0 (Map 1093632 16384 rw 32818 (negsuc 0) 0) (Ok (Returned 1093632)) (Some (plain 267 271 rw ∷ []))
+    ∷ kernel_step 0 (Map 1077248 16384 rw 16434 (negsuc 0) 0) (Ok (Returned 1077248)) (Some (plain 263 267 rw ∷ plain 267 271 rw ∷ []))
+    ∷ kernel_step 0 (Remap 1077248 16384 24576 3 1105920) (Ok (Returned 1105920)) (Some (plain 267 270 rw ∷ plain 270 276 rw ∷ []))
+    ∷ kernel_step 0 (Map 0 2101248 r 16385 (pos 3) 0) (Ok (Returned 140737352032256)) (Some (plain 267 270 rw ∷ plain 270 276 rw ∷ filed 34359705086 34359705599 r true 0 1 ∷ []))
+    ∷ kernel_step 0 (Seal 1056768 12288 0) (Err 12) (Some (plain 267 270 rw ∷ plain 270 276 rw ∷ filed 34359705086 34359705599 r true 0 1 ∷ []))
+    ∷ kernel_step 0 (Map 1056768 4096 rw 16434 (negsuc 0) 0) (Ok (Returned 1056768)) (Some (plain 258 259 rw ∷ plain 267 270 rw ∷ plain 270 276 rw ∷ filed 34359705086 34359705599 r true 0 1 ∷ []))
+    ∷ kernel_step 0 (Map 0 8192 rw 1 (pos 3) 8192) (Ok (Returned 140737352024064)) (Some (plain 258 259 rw ∷ plain 267 270 rw ∷ plain 270 276 rw ∷ filed 34359705084 34359705086 rw true 8192 1 ∷ filed 34359705086 34359705599 r true 0 1 ∷ []))
+    ∷ kernel_step 0 (Seal 1105920 24576 0) (Ok (Returned 0)) (Some (plain 258 259 rw ∷ plain 267 270 rw ∷ plain 270 276 rw ∷ filed 34359705084 34359705086 rw true 8192 1 ∷ filed 34359705086 34359705599 r true 0 1 ∷ []))
+    ∷ kernel_step 0 (Protect 1056768 4096 r) (Ok (Returned 0)) (Some (plain 258 259 r ∷ plain 267 270 rw ∷ plain 270 276 rw ∷ filed 34359705084 34359705086 rw true 8192 1 ∷ filed 34359705086 34359705599 r true 0 1 ∷ []))
+    ∷ kernel_step 0 (Map 0 12288 r 34 (negsuc 0) 0) (Ok (Returned 140737352011776)) (Some (plain 258 259 r ∷ plain 267 270 rw ∷ plain 270 276 rw ∷ plain 34359705081 34359705084 r ∷ filed 34359705084 34359705086 rw true 8192 1 ∷ filed 34359705086 34359705599 r true 0 1 ∷ []))
+    ∷ kernel_step 0 (Map 0 8589934592 rw 34 (negsuc 0) 0) (Ok (Returned 140728760008704)) (Some (plain 258 259 r ∷ plain 267 270 rw ∷ plain 270 276 rw ∷ plain 34357607424 34359704576 rw ∷ plain 34359705081 34359705084 r ∷ filed 34359705084 34359705086 rw true 8192 1 ∷ filed 34359705086 34359705599 r true 0 1 ∷ []))
+    ∷ kernel_step 0 (Protect 1110016 24576 rw) (Err 1) (Some (plain 258 259 r ∷ plain 267 270 rw ∷ plain 270 276 rw ∷ plain 34357607424 34359704576 rw ∷ plain 34359705081 34359705084 r ∷ filed 34359705084 34359705086 rw true 8192 1 ∷ filed 34359705086 34359705599 r true 0 1 ∷ []))
+    ∷ kernel_step 0 (Map 1114112 8192 rw 32802 (negsuc 0) 0) (Ok (Returned 140737352003584)) (Some (plain 258 259 r ∷ plain 267 270 rw ∷ plain 270 276 rw ∷ plain 34357607424 34359704576 rw ∷ plain 34359705079 34359705081 rw ∷ plain 34359705081 34359705084 r ∷ filed 34359705084 34359705086 rw true 8192 1 ∷ filed 34359705086 34359705599 r true 0 1 ∷ []))
+    ∷ kernel_step 0 (Map 140737352024064 8192 r 50 (negsuc 0) 0) (Ok (Returned 140737352024064)) (Some (plain 258 259 r ∷ plain 267 270 rw ∷ plain 270 276 rw ∷ plain 34357607424 34359704576 rw ∷ plain 34359705079 34359705081 rw ∷ plain 34359705081 34359705086 r ∷ filed 34359705086 34359705599 r true 0 1 ∷ []))
+    ∷ kernel_step 0 (Unmap 1093632 8192) (Ok (Returned 0)) (Some (plain 258 259 r ∷ plain 269 270 rw ∷ plain 270 276 rw ∷ plain 34357607424 34359704576 rw ∷ plain 34359705079 34359705081 rw ∷ plain 34359705081 34359705086 r ∷ filed 34359705086 34359705599 r true 0 1 ∷ []))
+    ∷ kernel_step 0 (Remap 1110016 0 4096 3 1052672) (Err 1) (Some (plain 258 259 r ∷ plain 269 270 rw ∷ plain 270 276 rw ∷ plain 34357607424 34359704576 rw ∷ plain 34359705079 34359705081 rw ∷ plain 34359705081 34359705086 r ∷ filed 34359705086 34359705599 r true 0 1 ∷ []))
+    ∷ kernel_step 0 (Map 0 2097152 rw 34 (negsuc 0) 0) (Ok (Returned 140728757911552)) (Some (plain 258 259 r ∷ plain 269 270 rw ∷ plain 270 276 rw ∷ plain 34357606912 34359704576 rw ∷ plain 34359705079 34359705081 rw ∷ plain 34359705081 34359705086 r ∷ filed 34359705086 34359705599 r true 0 1 ∷ []))
+    ∷ kernel_step 0 (Seal 1101824 4096 0) (Ok (Returned 0)) (Some (plain 258 259 r ∷ plain 269 270 rw ∷ plain 270 276 rw ∷ plain 34357606912 34359704576 rw ∷ plain 34359705079 34359705081 rw ∷ plain 34359705081 34359705086 r ∷ filed 34359705086 34359705599 r true 0 1 ∷ []))
+    ∷ kernel_step 0 (Touch 274 Write) (Ok (Serves 270 276 rw false 0)) None
+    ∷ kernel_step 0 (Remap 1101824 4096 4096 3 1105920) (Err 1) (Some (plain 258 259 r ∷ plain 269 270 rw ∷ plain 270 276 rw ∷ plain 34357606912 34359704576 rw ∷ plain 34359705079 34359705081 rw ∷ plain 34359705081 34359705086 r ∷ filed 34359705086 34359705599 r true 0 1 ∷ []))
+    ∷ kernel_step 0 (Map 1097728 16384 rw 50 (negsuc 0) 0) (Err 1) (Some (plain 258 259 r ∷ plain 269 270 rw ∷ plain 270 276 rw ∷ plain 34357606912 34359704576 rw ∷ plain 34359705079 34359705081 rw ∷ plain 34359705081 34359705086 r ∷ filed 34359705086 34359705599 r true 0 1 ∷ []))
+    ∷ kernel_step 0 (Remap 1105920 12288 12288 3 1114112) (Err 22) (Some (plain 258 259 r ∷ plain 269 270 rw ∷ plain 270 276 rw ∷ plain 34357606912 34359704576 rw ∷ plain 34359705079 34359705081 rw ∷ plain 34359705081 34359705086 r ∷ filed 34359705086 34359705599 r true 0 1 ∷ []))
+    ∷ kernel_step 0 (Map 1101824 16384 rw 50 (negsuc 0) 0) (Err 1) (Some (plain 258 259 r ∷ plain 269 270 rw ∷ plain 270 276 rw ∷ plain 34357606912 34359704576 rw ∷ plain 34359705079 34359705081 rw ∷ plain 34359705081 34359705086 r ∷ filed 34359705086 34359705599 r true 0 1 ∷ []))
     ∷ []
 
 -- hard_96: the kernel
@@ -349,36 +359,36 @@ hard_96_on = record { rules = linux_6_18; machine = record { lowest_built = 16; 
 -- hard_96: its answers
 abbrev pub hard_96 : List Step
 hard_96 =
-    step 0 (Map 1073152 68719476736 rw 3 (pos 4) 0) (Ok (Returned 1073152)) (Some (filed 262 16777478 rw true 0 2 ∷ []))
-    ∷ step 0 (Map 0 8192 r 32802 (negsuc 0) 0) (Ok (Returned 140737354125312)) (Some (filed 262 16777478 rw true 0 2 ∷ plain 34359705597 34359705599 r ∷ []))
-    ∷ step 0 (Map 1077248 8589934592 rw 1 (pos 3) 4096) (Err 13) (Some (filed 262 16777478 rw true 0 2 ∷ plain 34359705597 34359705599 r ∷ []))
-    ∷ step 0 (Touch 262 Write) (Ok (Serves 262 16777478 rw true 0)) None
-    ∷ step 0 (Protect 1073152 45056 rw) (Ok (Returned 0)) (Some (filed 262 16777478 rw true 0 2 ∷ plain 34359705597 34359705599 r ∷ []))
-    ∷ step 0 (Map 1064960 12288 rw 19 (pos 3) 12288) (Err 13) (Some (filed 262 16777478 rw true 0 2 ∷ plain 34359705597 34359705599 r ∷ []))
-    ∷ step 0 (Remap 1073152 4194304 4194304 3 4096) (Err 22) (Some (filed 262 16777478 rw true 0 2 ∷ plain 34359705597 34359705599 r ∷ []))
-    ∷ step 0 (Remap 1073152 12288 20480 3 1052672) (Ok (Returned 1052672)) (Some (filed 257 262 rw true 0 2 ∷ filed 265 16777478 rw true 12288 2 ∷ plain 34359705597 34359705599 r ∷ []))
-    ∷ step 0 (Map 1056768 12288 rw 50 (negsuc 0) 0) (Ok (Returned 1056768)) (Some (filed 257 258 rw true 0 2 ∷ plain 258 261 rw ∷ filed 261 262 rw true 16384 2 ∷ filed 265 16777478 rw true 12288 2 ∷ plain 34359705597 34359705599 r ∷ []))
-    ∷ step 0 (Touch 257 Write) (Ok (Serves 257 258 rw true 0)) None
-    ∷ step 0 (Remap 1122304 8192 12288 1 0) (Ok (Returned 140737354113024)) (Some (filed 257 258 rw true 0 2 ∷ plain 258 261 rw ∷ filed 261 262 rw true 16384 2 ∷ filed 265 274 rw true 12288 2 ∷ filed 276 16777478 rw true 57344 2 ∷ filed 34359705594 34359705597 rw true 49152 2 ∷ plain 34359705597 34359705599 r ∷ []))
-    ∷ step 0 (Protect 1069056 4096 rw) (Ok (Returned 0)) (Some (filed 257 258 rw true 0 2 ∷ plain 258 261 rw ∷ filed 261 262 rw true 16384 2 ∷ filed 265 274 rw true 12288 2 ∷ filed 276 16777478 rw true 57344 2 ∷ filed 34359705594 34359705597 rw true 49152 2 ∷ plain 34359705597 34359705599 r ∷ []))
-    ∷ step 0 (Touch 260 Read) (Ok (Serves 258 261 rw false 0)) None
-    ∷ step 0 (Map 140737354133504 8192 r 18 (pos 4) 8192) (Ok (Returned 140737354133504)) (Some (filed 257 258 rw true 0 2 ∷ plain 258 261 rw ∷ filed 261 262 rw true 16384 2 ∷ filed 265 274 rw true 12288 2 ∷ filed 276 16777478 rw true 57344 2 ∷ filed 34359705594 34359705597 rw true 49152 2 ∷ plain 34359705597 34359705599 r ∷ filed 34359705599 34359705601 r false 8192 2 ∷ []))
-    ∷ step 0 (Remap 1052672 4096 4096 3 1122304) (Ok (Returned 1122304)) (Some (plain 258 261 rw ∷ filed 261 262 rw true 16384 2 ∷ filed 265 274 rw true 12288 2 ∷ filed 274 275 rw true 0 2 ∷ filed 276 16777478 rw true 57344 2 ∷ filed 34359705594 34359705597 rw true 49152 2 ∷ plain 34359705597 34359705599 r ∷ filed 34359705599 34359705601 r false 8192 2 ∷ []))
-    ∷ step 0 (Protect 1085440 36864 r) (Ok (Returned 0)) (Some (plain 258 261 rw ∷ filed 261 262 rw true 16384 2 ∷ filed 265 274 r true 12288 2 ∷ filed 274 275 rw true 0 2 ∷ filed 276 16777478 rw true 57344 2 ∷ filed 34359705594 34359705597 rw true 49152 2 ∷ plain 34359705597 34359705599 r ∷ filed 34359705599 34359705601 r false 8192 2 ∷ []))
-    ∷ step 0 (Protect 1060864 8192 rw) (Ok (Returned 0)) (Some (plain 258 261 rw ∷ filed 261 262 rw true 16384 2 ∷ filed 265 274 r true 12288 2 ∷ filed 274 275 rw true 0 2 ∷ filed 276 16777478 rw true 57344 2 ∷ filed 34359705594 34359705597 rw true 49152 2 ∷ plain 34359705597 34359705599 r ∷ filed 34359705599 34359705601 r false 8192 2 ∷ []))
-    ∷ step 0 (Touch 270 Write) (Ok (Signal AccErr)) None
-    ∷ step 0 (Map 0 12288 rw 34 (negsuc 0) 0) (Ok (Returned 140737354100736)) (Some (plain 258 261 rw ∷ filed 261 262 rw true 16384 2 ∷ filed 265 274 r true 12288 2 ∷ filed 274 275 rw true 0 2 ∷ filed 276 16777478 rw true 57344 2 ∷ plain 34359705591 34359705594 rw ∷ filed 34359705594 34359705597 rw true 49152 2 ∷ plain 34359705597 34359705599 r ∷ filed 34359705599 34359705601 r false 8192 2 ∷ []))
-    ∷ step 0 (Fork 1) (Ok (Returned 0)) None
-    ∷ step 0 (Touch 503 Read) (Ok (Signal BusErr)) None
-    ∷ step 0 (Map 0 68719476736 rw 2 (pos 3) 0) (Err 13) (Some (plain 258 261 rw ∷ filed 261 262 rw true 16384 2 ∷ filed 265 274 r true 12288 2 ∷ filed 274 275 rw true 0 2 ∷ filed 276 16777478 rw true 57344 2 ∷ plain 34359705591 34359705594 rw ∷ filed 34359705594 34359705597 rw true 49152 2 ∷ plain 34359705597 34359705599 r ∷ filed 34359705599 34359705601 r false 8192 2 ∷ []))
-    ∷ step 1 (Map 1056768 12288 rw 17 (pos 4) 4096) (Ok (Returned 1056768)) (Some (filed 258 262 rw true 4096 2 ∷ filed 265 274 r true 12288 2 ∷ filed 274 275 rw true 0 2 ∷ filed 276 16777478 rw true 57344 2 ∷ plain 34359705591 34359705594 rw ∷ filed 34359705594 34359705597 rw true 49152 2 ∷ plain 34359705597 34359705599 r ∷ filed 34359705599 34359705601 r false 8192 2 ∷ []))
-    ∷ step 0 (Touch 959 Exec) (Ok (Signal BusErr)) None
-    ∷ step 0 (Map 0 2097152 r 34 (negsuc 0) 0) (Ok (Returned 140737349943296)) (Some (plain 258 261 rw ∷ filed 261 262 rw true 16384 2 ∷ filed 265 274 r true 12288 2 ∷ filed 274 275 rw true 0 2 ∷ filed 276 16777478 rw true 57344 2 ∷ plain 34359704576 34359705088 r ∷ plain 34359705591 34359705594 rw ∷ filed 34359705594 34359705597 rw true 49152 2 ∷ plain 34359705597 34359705599 r ∷ filed 34359705599 34359705601 r false 8192 2 ∷ []))
-    ∷ step 1 (Unmap 1122304 4096) (Ok (Returned 0)) (Some (filed 258 262 rw true 4096 2 ∷ filed 265 274 r true 12288 2 ∷ filed 276 16777478 rw true 57344 2 ∷ plain 34359705591 34359705594 rw ∷ filed 34359705594 34359705597 rw true 49152 2 ∷ plain 34359705597 34359705599 r ∷ filed 34359705599 34359705601 r false 8192 2 ∷ []))
-    ∷ step 0 (Touch 266 Exec) (Ok (Signal AccErr)) (Some (plain 258 261 rw ∷ filed 261 262 rw true 16384 2 ∷ filed 265 274 r true 12288 2 ∷ filed 274 275 rw true 0 2 ∷ filed 276 16777478 rw true 57344 2 ∷ plain 34359704576 34359705088 r ∷ plain 34359705591 34359705594 rw ∷ filed 34359705594 34359705597 rw true 49152 2 ∷ plain 34359705597 34359705599 r ∷ filed 34359705599 34359705601 r false 8192 2 ∷ []))
-    ∷ step 1 (Map 140737354108928 16384 rw 50 (negsuc 0) 0) (Ok (Returned 140737354108928)) (Some (filed 258 262 rw true 4096 2 ∷ filed 265 274 r true 12288 2 ∷ filed 276 16777478 rw true 57344 2 ∷ plain 34359705591 34359705597 rw ∷ plain 34359705597 34359705599 r ∷ filed 34359705599 34359705601 r false 8192 2 ∷ []))
-    ∷ step 1 (Map 1052672 4194304 rw 2 (pos 3) 0) (Err 13) (Some (filed 258 262 rw true 4096 2 ∷ filed 265 274 r true 12288 2 ∷ filed 276 16777478 rw true 57344 2 ∷ plain 34359705591 34359705597 rw ∷ plain 34359705597 34359705599 r ∷ filed 34359705599 34359705601 r false 8192 2 ∷ []))
-    ∷ step 1 (Remap 1056768 28672 36864 3 68720549888) (Err 14) (Some (filed 258 262 rw true 4096 2 ∷ filed 265 274 r true 12288 2 ∷ filed 276 16777478 rw true 57344 2 ∷ plain 34359705591 34359705597 rw ∷ plain 34359705597 34359705599 r ∷ filed 34359705599 34359705601 r false 8192 2 ∷ []))
+    kernel_step 0 (Map 1073152 68719476736 rw 3 (pos 4) 0) (Ok (Returned 1073152)) (Some (filed 262 16777478 rw true 0 2 ∷ []))
+    ∷ kernel_step 0 (Map 0 8192 r 32802 (negsuc 0) 0) (Ok (Returned 140737354125312)) (Some (filed 262 16777478 rw true 0 2 ∷ plain 34359705597 34359705599 r ∷ []))
+    ∷ kernel_step 0 (Map 1077248 8589934592 rw 1 (pos 3) 4096) (Err 13) (Some (filed 262 16777478 rw true 0 2 ∷ plain 34359705597 34359705599 r ∷ []))
+    ∷ kernel_step 0 (Touch 262 Write) (Ok (Serves 262 16777478 rw true 0)) None
+    ∷ kernel_step 0 (Protect 1073152 45056 rw) (Ok (Returned 0)) (Some (filed 262 16777478 rw true 0 2 ∷ plain 34359705597 34359705599 r ∷ []))
+    ∷ kernel_step 0 (Map 1064960 12288 rw 19 (pos 3) 12288) (Err 13) (Some (filed 262 16777478 rw true 0 2 ∷ plain 34359705597 34359705599 r ∷ []))
+    ∷ kernel_step 0 (Remap 1073152 4194304 4194304 3 4096) (Err 22) (Some (filed 262 16777478 rw true 0 2 ∷ plain 34359705597 34359705599 r ∷ []))
+    ∷ kernel_step 0 (Remap 1073152 12288 20480 3 1052672) (Ok (Returned 1052672)) (Some (filed 257 262 rw true 0 2 ∷ filed 265 16777478 rw true 12288 2 ∷ plain 34359705597 34359705599 r ∷ []))
+    ∷ kernel_step 0 (Map 1056768 12288 rw 50 (negsuc 0) 0) (Ok (Returned 1056768)) (Some (filed 257 258 rw true 0 2 ∷ plain 258 261 rw ∷ filed 261 262 rw true 16384 2 ∷ filed 265 16777478 rw true 12288 2 ∷ plain 34359705597 34359705599 r ∷ []))
+    ∷ kernel_step 0 (Touch 257 Write) (Ok (Serves 257 258 rw true 0)) None
+    ∷ kernel_step 0 (Remap 1122304 8192 12288 1 0) (Ok (Returned 140737354113024)) (Some (filed 257 258 rw true 0 2 ∷ plain 258 261 rw ∷ filed 261 262 rw true 16384 2 ∷ filed 265 274 rw true 12288 2 ∷ filed 276 16777478 rw true 57344 2 ∷ filed 34359705594 34359705597 rw true 49152 2 ∷ plain 34359705597 34359705599 r ∷ []))
+    ∷ kernel_step 0 (Protect 1069056 4096 rw) (Ok (Returned 0)) (Some (filed 257 258 rw true 0 2 ∷ plain 258 261 rw ∷ filed 261 262 rw true 16384 2 ∷ filed 265 274 rw true 12288 2 ∷ filed 276 16777478 rw true 57344 2 ∷ filed 34359705594 34359705597 rw true 49152 2 ∷ plain 34359705597 34359705599 r ∷ []))
+    ∷ kernel_step 0 (Touch 260 Read) (Ok (Serves 258 261 rw false 0)) None
+    ∷ kernel_step 0 (Map 140737354133504 8192 r 18 (pos 4) 8192) (Ok (Returned 140737354133504)) (Some (filed 257 258 rw true 0 2 ∷ plain 258 261 rw ∷ filed 261 262 rw true 16384 2 ∷ filed 265 274 rw true 12288 2 ∷ filed 276 16777478 rw true 57344 2 ∷ filed 34359705594 34359705597 rw true 49152 2 ∷ plain 34359705597 34359705599 r ∷ filed 34359705599 34359705601 r false 8192 2 ∷ []))
+    ∷ kernel_step 0 (Remap 1052672 4096 4096 3 1122304) (Ok (Returned 1122304)) (Some (plain 258 261 rw ∷ filed 261 262 rw true 16384 2 ∷ filed 265 274 rw true 12288 2 ∷ filed 274 275 rw true 0 2 ∷ filed 276 16777478 rw true 57344 2 ∷ filed 34359705594 34359705597 rw true 49152 2 ∷ plain 34359705597 34359705599 r ∷ filed 34359705599 34359705601 r false 8192 2 ∷ []))
+    ∷ kernel_step 0 (Protect 1085440 36864 r) (Ok (Returned 0)) (Some (plain 258 261 rw ∷ filed 261 262 rw true 16384 2 ∷ filed 265 274 r true 12288 2 ∷ filed 274 275 rw true 0 2 ∷ filed 276 16777478 rw true 57344 2 ∷ filed 34359705594 34359705597 rw true 49152 2 ∷ plain 34359705597 34359705599 r ∷ filed 34359705599 34359705601 r false 8192 2 ∷ []))
+    ∷ kernel_step 0 (Protect 1060864 8192 rw) (Ok (Returned 0)) (Some (plain 258 261 rw ∷ filed 261 262 rw true 16384 2 ∷ filed 265 274 r true 12288 2 ∷ filed 274 275 rw true 0 2 ∷ filed 276 16777478 rw true 57344 2 ∷ filed 34359705594 34359705597 rw true 49152 2 ∷ plain 34359705597 34359705599 r ∷ filed 34359705599 34359705601 r false 8192 2 ∷ []))
+    ∷ kernel_step 0 (Touch 270 Write) (Ok (Signal AccErr)) None
+    ∷ kernel_step 0 (Map 0 12288 rw 34 (negsuc 0) 0) (Ok (Returned 140737354100736)) (Some (plain 258 261 rw ∷ filed 261 262 rw true 16384 2 ∷ filed 265 274 r true 12288 2 ∷ filed 274 275 rw true 0 2 ∷ filed 276 16777478 rw true 57344 2 ∷ plain 34359705591 34359705594 rw ∷ filed 34359705594 34359705597 rw true 49152 2 ∷ plain 34359705597 34359705599 r ∷ filed 34359705599 34359705601 r false 8192 2 ∷ []))
+    ∷ kernel_step 0 (Fork 1) (Ok (Returned 0)) None
+    ∷ kernel_step 0 (Touch 503 Read) (Ok (Signal BusErr)) None
+    ∷ kernel_step 0 (Map 0 68719476736 rw 2 (pos 3) 0) (Err 13) (Some (plain 258 261 rw ∷ filed 261 262 rw true 16384 2 ∷ filed 265 274 r true 12288 2 ∷ filed 274 275 rw true 0 2 ∷ filed 276 16777478 rw true 57344 2 ∷ plain 34359705591 34359705594 rw ∷ filed 34359705594 34359705597 rw true 49152 2 ∷ plain 34359705597 34359705599 r ∷ filed 34359705599 34359705601 r false 8192 2 ∷ []))
+    ∷ kernel_step 1 (Map 1056768 12288 rw 17 (pos 4) 4096) (Ok (Returned 1056768)) (Some (filed 258 262 rw true 4096 2 ∷ filed 265 274 r true 12288 2 ∷ filed 274 275 rw true 0 2 ∷ filed 276 16777478 rw true 57344 2 ∷ plain 34359705591 34359705594 rw ∷ filed 34359705594 34359705597 rw true 49152 2 ∷ plain 34359705597 34359705599 r ∷ filed 34359705599 34359705601 r false 8192 2 ∷ []))
+    ∷ kernel_step 0 (Touch 959 Exec) (Ok (Signal BusErr)) None
+    ∷ kernel_step 0 (Map 0 2097152 r 34 (negsuc 0) 0) (Ok (Returned 140737349943296)) (Some (plain 258 261 rw ∷ filed 261 262 rw true 16384 2 ∷ filed 265 274 r true 12288 2 ∷ filed 274 275 rw true 0 2 ∷ filed 276 16777478 rw true 57344 2 ∷ plain 34359704576 34359705088 r ∷ plain 34359705591 34359705594 rw ∷ filed 34359705594 34359705597 rw true 49152 2 ∷ plain 34359705597 34359705599 r ∷ filed 34359705599 34359705601 r false 8192 2 ∷ []))
+    ∷ kernel_step 1 (Unmap 1122304 4096) (Ok (Returned 0)) (Some (filed 258 262 rw true 4096 2 ∷ filed 265 274 r true 12288 2 ∷ filed 276 16777478 rw true 57344 2 ∷ plain 34359705591 34359705594 rw ∷ filed 34359705594 34359705597 rw true 49152 2 ∷ plain 34359705597 34359705599 r ∷ filed 34359705599 34359705601 r false 8192 2 ∷ []))
+    ∷ kernel_step 0 (Touch 266 Exec) (Ok (Signal AccErr)) (Some (plain 258 261 rw ∷ filed 261 262 rw true 16384 2 ∷ filed 265 274 r true 12288 2 ∷ filed 274 275 rw true 0 2 ∷ filed 276 16777478 rw true 57344 2 ∷ plain 34359704576 34359705088 r ∷ plain 34359705591 34359705594 rw ∷ filed 34359705594 34359705597 rw true 49152 2 ∷ plain 34359705597 34359705599 r ∷ filed 34359705599 34359705601 r false 8192 2 ∷ []))
+    ∷ kernel_step 1 (Map 140737354108928 16384 rw 50 (negsuc 0) 0) (Ok (Returned 140737354108928)) (Some (filed 258 262 rw true 4096 2 ∷ filed 265 274 r true 12288 2 ∷ filed 276 16777478 rw true 57344 2 ∷ plain 34359705591 34359705597 rw ∷ plain 34359705597 34359705599 r ∷ filed 34359705599 34359705601 r false 8192 2 ∷ []))
+    ∷ kernel_step 1 (Map 1052672 4194304 rw 2 (pos 3) 0) (Err 13) (Some (filed 258 262 rw true 4096 2 ∷ filed 265 274 r true 12288 2 ∷ filed 276 16777478 rw true 57344 2 ∷ plain 34359705591 34359705597 rw ∷ plain 34359705597 34359705599 r ∷ filed 34359705599 34359705601 r false 8192 2 ∷ []))
+    ∷ kernel_step 1 (Remap 1056768 28672 36864 3 68720549888) (Err 14) (Some (filed 258 262 rw true 4096 2 ∷ filed 265 274 r true 12288 2 ∷ filed 276 16777478 rw true 57344 2 ∷ plain 34359705591 34359705597 rw ∷ plain 34359705597 34359705599 r ∷ filed 34359705599 34359705601 r false 8192 2 ∷ []))
     ∷ []
 
 -- written_limit_103: the kernel
@@ -388,36 +398,36 @@ written_limit_103_on = record { rules = linux_6_18; machine = record { lowest_bu
 -- written_limit_103: its answers
 abbrev pub written_limit_103 : List Step
 written_limit_103 =
-    step 0 (Map 1060864 8192 r 50 (negsuc 0) 0) (Ok (Returned 1060864)) (Some (plain 259 261 r ∷ []))
-    ∷ step 0 (Map 1077248 4096 r 50 (negsuc 0) 0) (Ok (Returned 1077248)) (Some (plain 259 261 r ∷ plain 263 264 r ∷ []))
-    ∷ step 0 (Protect 1056768 4096 rw) (Err 12) (Some (plain 259 261 r ∷ plain 263 264 r ∷ []))
-    ∷ step 0 (Map 1056768 16384 r 50 (negsuc 0) 0) (Ok (Returned 1056768)) (Some (plain 258 262 r ∷ plain 263 264 r ∷ []))
-    ∷ step 0 (Touch 263 Read) (Ok (Serves 263 264 r false 0)) None
-    ∷ step 0 (Protect 1069056 4096 r) (Ok (Returned 0)) (Some (plain 258 262 r ∷ plain 263 264 r ∷ []))
-    ∷ step 0 (Touch 263 Write) (Ok (Signal AccErr)) None
-    ∷ step 0 (Touch 263 Read) (Ok (Serves 263 264 r false 0)) None
-    ∷ step 0 (Touch 263 Write) (Ok (Signal AccErr)) None
-    ∷ step 0 (Map 1081344 34359738368 rw 49 (negsuc 0) 0) (Err 12) (Some (plain 258 262 r ∷ plain 263 264 r ∷ []))
-    ∷ step 0 (Unmap 1056768 8192) (Ok (Returned 0)) (Some (plain 260 262 r ∷ plain 263 264 r ∷ []))
-    ∷ step 0 (Touch 263 Write) (Ok (Signal AccErr)) None
-    ∷ step 0 (Remap 1048576 16384 16384 7 1576960) (Err 12) (Some (plain 260 262 r ∷ plain 263 264 r ∷ []))
-    ∷ step 0 (Touch 263 Read) (Ok (Serves 263 264 r false 0)) None
-    ∷ step 0 (Map 1064960 16384 r 50 (negsuc 0) 0) (Ok (Returned 1064960)) (Some (plain 260 264 r ∷ []))
-    ∷ step 0 (Remap 1089536 16384 16384 3 1642496) (Err 14) (Some (plain 260 264 r ∷ []))
-    ∷ step 0 (Protect 1064960 16384 r) (Ok (Returned 0)) (Some (plain 260 264 r ∷ []))
-    ∷ step 0 (Touch 261 Write) (Ok (Signal AccErr)) None
-    ∷ step 0 (Map 1069056 34359738368 rw 50 (negsuc 0) 0) (Err 12) (Some (plain 260 261 r ∷ plain 261 264 r ∷ []))
-    ∷ step 0 (Touch 260 Write) (Ok (Signal AccErr)) None
-    ∷ step 0 (Protect 1064960 4096 rw) (Ok (Returned 0)) (Some (plain 260 261 rw ∷ plain 261 264 r ∷ []))
-    ∷ step 0 (Touch 260 Write) (Ok (Serves 260 261 rw false 0)) None
-    ∷ step 0 (Map 1093632 17179869184 r 50 (negsuc 0) 0) (Ok (Returned 1093632)) (Some (plain 260 261 rw ∷ plain 261 264 r ∷ plain 267 4194571 r ∷ []))
-    ∷ step 0 (Remap 1642496 16384 16384 3 1089536) (Err 12) (Some (plain 260 261 rw ∷ plain 261 264 r ∷ plain 267 4194571 r ∷ []))
-    ∷ step 0 (Protect 1089536 16384 rw) (Err 12) (Some (plain 260 261 rw ∷ plain 261 264 r ∷ plain 267 4194571 r ∷ []))
-    ∷ step 0 (Protect 1064960 4096 rw) (Ok (Returned 0)) (Some (plain 260 261 rw ∷ plain 261 264 r ∷ plain 267 4194571 r ∷ []))
-    ∷ step 0 (Touch 270 Write) (Ok (Signal AccErr)) None
-    ∷ step 0 (Map 1069056 17179869184 r 49 (negsuc 0) 0) (Ok (Returned 1069056)) (Some (plain 260 261 rw ∷ filed 261 4194565 r true 0 3 ∷ plain 4194565 4194571 r ∷ []))
-    ∷ step 0 (Map 1077248 34359738368 rw 49 (negsuc 0) 0) (Err 12) (Some (plain 260 261 rw ∷ filed 261 263 r true 0 3 ∷ []))
-    ∷ step 0 (Protect 1064960 16384 r) (Err 12) (Some (plain 260 261 r ∷ filed 261 263 r true 0 3 ∷ []))
+    kernel_step 0 (Map 1060864 8192 r 50 (negsuc 0) 0) (Ok (Returned 1060864)) (Some (plain 259 261 r ∷ []))
+    ∷ kernel_step 0 (Map 1077248 4096 r 50 (negsuc 0) 0) (Ok (Returned 1077248)) (Some (plain 259 261 r ∷ plain 263 264 r ∷ []))
+    ∷ kernel_step 0 (Protect 1056768 4096 rw) (Err 12) (Some (plain 259 261 r ∷ plain 263 264 r ∷ []))
+    ∷ kernel_step 0 (Map 1056768 16384 r 50 (negsuc 0) 0) (Ok (Returned 1056768)) (Some (plain 258 262 r ∷ plain 263 264 r ∷ []))
+    ∷ kernel_step 0 (Touch 263 Read) (Ok (Serves 263 264 r false 0)) None
+    ∷ kernel_step 0 (Protect 1069056 4096 r) (Ok (Returned 0)) (Some (plain 258 262 r ∷ plain 263 264 r ∷ []))
+    ∷ kernel_step 0 (Touch 263 Write) (Ok (Signal AccErr)) None
+    ∷ kernel_step 0 (Touch 263 Read) (Ok (Serves 263 264 r false 0)) None
+    ∷ kernel_step 0 (Touch 263 Write) (Ok (Signal AccErr)) None
+    ∷ kernel_step 0 (Map 1081344 34359738368 rw 49 (negsuc 0) 0) (Err 12) (Some (plain 258 262 r ∷ plain 263 264 r ∷ []))
+    ∷ kernel_step 0 (Unmap 1056768 8192) (Ok (Returned 0)) (Some (plain 260 262 r ∷ plain 263 264 r ∷ []))
+    ∷ kernel_step 0 (Touch 263 Write) (Ok (Signal AccErr)) None
+    ∷ kernel_step 0 (Remap 1048576 16384 16384 7 1576960) (Err 12) (Some (plain 260 262 r ∷ plain 263 264 r ∷ []))
+    ∷ kernel_step 0 (Touch 263 Read) (Ok (Serves 263 264 r false 0)) None
+    ∷ kernel_step 0 (Map 1064960 16384 r 50 (negsuc 0) 0) (Ok (Returned 1064960)) (Some (plain 260 264 r ∷ []))
+    ∷ kernel_step 0 (Remap 1089536 16384 16384 3 1642496) (Err 14) (Some (plain 260 264 r ∷ []))
+    ∷ kernel_step 0 (Protect 1064960 16384 r) (Ok (Returned 0)) (Some (plain 260 264 r ∷ []))
+    ∷ kernel_step 0 (Touch 261 Write) (Ok (Signal AccErr)) None
+    ∷ kernel_step 0 (Map 1069056 34359738368 rw 50 (negsuc 0) 0) (Err 12) (Some (plain 260 261 r ∷ plain 261 264 r ∷ []))
+    ∷ kernel_step 0 (Touch 260 Write) (Ok (Signal AccErr)) None
+    ∷ kernel_step 0 (Protect 1064960 4096 rw) (Ok (Returned 0)) (Some (plain 260 261 rw ∷ plain 261 264 r ∷ []))
+    ∷ kernel_step 0 (Touch 260 Write) (Ok (Serves 260 261 rw false 0)) None
+    ∷ kernel_step 0 (Map 1093632 17179869184 r 50 (negsuc 0) 0) (Ok (Returned 1093632)) (Some (plain 260 261 rw ∷ plain 261 264 r ∷ plain 267 4194571 r ∷ []))
+    ∷ kernel_step 0 (Remap 1642496 16384 16384 3 1089536) (Err 12) (Some (plain 260 261 rw ∷ plain 261 264 r ∷ plain 267 4194571 r ∷ []))
+    ∷ kernel_step 0 (Protect 1089536 16384 rw) (Err 12) (Some (plain 260 261 rw ∷ plain 261 264 r ∷ plain 267 4194571 r ∷ []))
+    ∷ kernel_step 0 (Protect 1064960 4096 rw) (Ok (Returned 0)) (Some (plain 260 261 rw ∷ plain 261 264 r ∷ plain 267 4194571 r ∷ []))
+    ∷ kernel_step 0 (Touch 270 Write) (Ok (Signal AccErr)) None
+    ∷ kernel_step 0 (Map 1069056 17179869184 r 49 (negsuc 0) 0) (Ok (Returned 1069056)) (Some (plain 260 261 rw ∷ filed 261 4194565 r true 0 3 ∷ plain 4194565 4194571 r ∷ []))
+    ∷ kernel_step 0 (Map 1077248 34359738368 rw 49 (negsuc 0) 0) (Err 12) (Some (plain 260 261 rw ∷ filed 261 263 r true 0 3 ∷ []))
+    ∷ kernel_step 0 (Protect 1064960 16384 r) (Err 12) (Some (plain 260 261 r ∷ filed 261 263 r true 0 3 ∷ []))
     ∷ []
 
 -- written_126: the kernel
@@ -427,36 +437,36 @@ written_126_on = record { rules = linux_6_18; machine = record { lowest_built = 
 -- written_126: its answers
 abbrev pub written_126 : List Step
 written_126 =
-    step 0 (Map 1064960 16384 rw 50 (negsuc 0) 0) (Ok (Returned 1064960)) (Some (plain 260 264 rw ∷ []))
-    ∷ step 0 (Map 1048576 16384 rw 50 (negsuc 0) 0) (Ok (Returned 1048576)) (Some (plain 256 264 rw ∷ []))
-    ∷ step 0 (Protect 1048576 32768 rw) (Ok (Returned 0)) (Some (plain 256 264 rw ∷ []))
-    ∷ step 0 (Map 1048576 4096 rw 50 (negsuc 0) 0) (Ok (Returned 1048576)) (Some (plain 256 264 rw ∷ []))
-    ∷ step 0 (Touch 261 Write) (Ok (Serves 256 264 rw false 0)) None
-    ∷ step 0 (Protect 1073152 16384 rw) (Err 12) (Some (plain 256 264 rw ∷ []))
-    ∷ step 0 (Remap 1048576 24576 24576 3 1609728) (Ok (Returned 1609728)) (Some (plain 262 264 rw ∷ plain 393 399 rw ∷ []))
-    ∷ step 0 (Touch 262 Write) (Ok (Serves 262 264 rw false 0)) None
-    ∷ step 0 (Remap 1060864 4096 8192 1 0) (Err 14) (Some (plain 262 264 rw ∷ plain 393 399 rw ∷ []))
-    ∷ step 0 (Touch 395 Read) (Ok (Serves 393 399 rw false 0)) None
-    ∷ step 0 (Touch 262 Write) (Ok (Serves 262 264 rw false 0)) None
-    ∷ step 0 (Protect 1048576 16384 rw) (Err 12) (Some (plain 262 264 rw ∷ plain 393 399 rw ∷ []))
-    ∷ step 0 (Map 1052672 4096 rw 50 (negsuc 0) 0) (Ok (Returned 1052672)) (Some (plain 257 258 rw ∷ plain 262 264 rw ∷ plain 393 399 rw ∷ []))
-    ∷ step 0 (Protect 1060864 12288 rw) (Err 12) (Some (plain 257 258 rw ∷ plain 262 264 rw ∷ plain 393 399 rw ∷ []))
-    ∷ step 0 (Remap 1073152 16384 16384 3 1572864) (Ok (Returned 1572864)) (Some (plain 257 258 rw ∷ plain 384 386 rw ∷ plain 393 399 rw ∷ []))
-    ∷ step 0 (Remap 1052672 4096 4096 3 1064960) (Ok (Returned 1064960)) (Some (plain 260 261 rw ∷ plain 384 386 rw ∷ plain 393 399 rw ∷ []))
-    ∷ step 0 (Map 1048576 8192 rw 50 (negsuc 0) 0) (Ok (Returned 1048576)) (Some (plain 256 258 rw ∷ plain 260 261 rw ∷ plain 384 386 rw ∷ plain 393 399 rw ∷ []))
-    ∷ step 0 (Remap 1060864 8192 16384 3 1069056) (Err 14) (Some (plain 256 258 rw ∷ plain 260 261 rw ∷ plain 384 386 rw ∷ plain 393 399 rw ∷ []))
-    ∷ step 0 (Touch 257 Write) (Ok (Serves 256 258 rw false 0)) None
-    ∷ step 0 (Touch 256 Write) (Ok (Serves 256 258 rw false 0)) None
-    ∷ step 0 (Map 1077248 8192 rw 50 (negsuc 0) 0) (Ok (Returned 1077248)) (Some (plain 256 258 rw ∷ plain 260 261 rw ∷ plain 263 265 rw ∷ plain 384 386 rw ∷ plain 393 399 rw ∷ []))
-    ∷ step 0 (Protect 1081344 4096 rw) (Ok (Returned 0)) (Some (plain 256 258 rw ∷ plain 260 261 rw ∷ plain 263 265 rw ∷ plain 384 386 rw ∷ plain 393 399 rw ∷ []))
-    ∷ step 0 (Remap 1572864 16384 16384 3 1073152) (Ok (Returned 1073152)) (Some (plain 256 258 rw ∷ plain 260 261 rw ∷ plain 262 265 rw ∷ plain 393 399 rw ∷ []))
-    ∷ step 0 (Fork 1) (Ok (Returned 0)) None
-    ∷ step 0 (Touch 260 Write) (Ok (Serves 260 261 rw false 0)) None
-    ∷ step 0 (Protect 1056768 8192 rw) (Err 12) (Some (plain 256 258 rw ∷ plain 260 261 rw ∷ plain 262 265 rw ∷ plain 393 399 rw ∷ []))
-    ∷ step 1 (Touch 260 Write) (Ok (Serves 260 261 rw false 0)) None
-    ∷ step 1 (Map 1077248 8192 rw 50 (negsuc 0) 0) (Ok (Returned 1077248)) (Some (plain 256 258 rw ∷ plain 260 261 rw ∷ plain 262 263 rw ∷ plain 263 265 rw ∷ plain 393 399 rw ∷ []))
-    ∷ step 1 (Touch 396 Write) (Ok (Serves 393 399 rw false 0)) (Some (plain 256 258 rw ∷ plain 260 261 rw ∷ plain 262 263 rw ∷ plain 263 265 rw ∷ plain 393 399 rw ∷ []))
-    ∷ step 0 (Remap 1622016 12288 12288 3 1060864) (Ok (Returned 1060864)) (Some (plain 256 258 rw ∷ plain 259 265 rw ∷ plain 393 396 rw ∷ []))
+    kernel_step 0 (Map 1064960 16384 rw 50 (negsuc 0) 0) (Ok (Returned 1064960)) (Some (plain 260 264 rw ∷ []))
+    ∷ kernel_step 0 (Map 1048576 16384 rw 50 (negsuc 0) 0) (Ok (Returned 1048576)) (Some (plain 256 264 rw ∷ []))
+    ∷ kernel_step 0 (Protect 1048576 32768 rw) (Ok (Returned 0)) (Some (plain 256 264 rw ∷ []))
+    ∷ kernel_step 0 (Map 1048576 4096 rw 50 (negsuc 0) 0) (Ok (Returned 1048576)) (Some (plain 256 264 rw ∷ []))
+    ∷ kernel_step 0 (Touch 261 Write) (Ok (Serves 256 264 rw false 0)) None
+    ∷ kernel_step 0 (Protect 1073152 16384 rw) (Err 12) (Some (plain 256 264 rw ∷ []))
+    ∷ kernel_step 0 (Remap 1048576 24576 24576 3 1609728) (Ok (Returned 1609728)) (Some (plain 262 264 rw ∷ plain 393 399 rw ∷ []))
+    ∷ kernel_step 0 (Touch 262 Write) (Ok (Serves 262 264 rw false 0)) None
+    ∷ kernel_step 0 (Remap 1060864 4096 8192 1 0) (Err 14) (Some (plain 262 264 rw ∷ plain 393 399 rw ∷ []))
+    ∷ kernel_step 0 (Touch 395 Read) (Ok (Serves 393 399 rw false 0)) None
+    ∷ kernel_step 0 (Touch 262 Write) (Ok (Serves 262 264 rw false 0)) None
+    ∷ kernel_step 0 (Protect 1048576 16384 rw) (Err 12) (Some (plain 262 264 rw ∷ plain 393 399 rw ∷ []))
+    ∷ kernel_step 0 (Map 1052672 4096 rw 50 (negsuc 0) 0) (Ok (Returned 1052672)) (Some (plain 257 258 rw ∷ plain 262 264 rw ∷ plain 393 399 rw ∷ []))
+    ∷ kernel_step 0 (Protect 1060864 12288 rw) (Err 12) (Some (plain 257 258 rw ∷ plain 262 264 rw ∷ plain 393 399 rw ∷ []))
+    ∷ kernel_step 0 (Remap 1073152 16384 16384 3 1572864) (Ok (Returned 1572864)) (Some (plain 257 258 rw ∷ plain 384 386 rw ∷ plain 393 399 rw ∷ []))
+    ∷ kernel_step 0 (Remap 1052672 4096 4096 3 1064960) (Ok (Returned 1064960)) (Some (plain 260 261 rw ∷ plain 384 386 rw ∷ plain 393 399 rw ∷ []))
+    ∷ kernel_step 0 (Map 1048576 8192 rw 50 (negsuc 0) 0) (Ok (Returned 1048576)) (Some (plain 256 258 rw ∷ plain 260 261 rw ∷ plain 384 386 rw ∷ plain 393 399 rw ∷ []))
+    ∷ kernel_step 0 (Remap 1060864 8192 16384 3 1069056) (Err 14) (Some (plain 256 258 rw ∷ plain 260 261 rw ∷ plain 384 386 rw ∷ plain 393 399 rw ∷ []))
+    ∷ kernel_step 0 (Touch 257 Write) (Ok (Serves 256 258 rw false 0)) None
+    ∷ kernel_step 0 (Touch 256 Write) (Ok (Serves 256 258 rw false 0)) None
+    ∷ kernel_step 0 (Map 1077248 8192 rw 50 (negsuc 0) 0) (Ok (Returned 1077248)) (Some (plain 256 258 rw ∷ plain 260 261 rw ∷ plain 263 265 rw ∷ plain 384 386 rw ∷ plain 393 399 rw ∷ []))
+    ∷ kernel_step 0 (Protect 1081344 4096 rw) (Ok (Returned 0)) (Some (plain 256 258 rw ∷ plain 260 261 rw ∷ plain 263 265 rw ∷ plain 384 386 rw ∷ plain 393 399 rw ∷ []))
+    ∷ kernel_step 0 (Remap 1572864 16384 16384 3 1073152) (Ok (Returned 1073152)) (Some (plain 256 258 rw ∷ plain 260 261 rw ∷ plain 262 265 rw ∷ plain 393 399 rw ∷ []))
+    ∷ kernel_step 0 (Fork 1) (Ok (Returned 0)) None
+    ∷ kernel_step 0 (Touch 260 Write) (Ok (Serves 260 261 rw false 0)) None
+    ∷ kernel_step 0 (Protect 1056768 8192 rw) (Err 12) (Some (plain 256 258 rw ∷ plain 260 261 rw ∷ plain 262 265 rw ∷ plain 393 399 rw ∷ []))
+    ∷ kernel_step 1 (Touch 260 Write) (Ok (Serves 260 261 rw false 0)) None
+    ∷ kernel_step 1 (Map 1077248 8192 rw 50 (negsuc 0) 0) (Ok (Returned 1077248)) (Some (plain 256 258 rw ∷ plain 260 261 rw ∷ plain 262 263 rw ∷ plain 263 265 rw ∷ plain 393 399 rw ∷ []))
+    ∷ kernel_step 1 (Touch 396 Write) (Ok (Serves 393 399 rw false 0)) (Some (plain 256 258 rw ∷ plain 260 261 rw ∷ plain 262 263 rw ∷ plain 263 265 rw ∷ plain 393 399 rw ∷ []))
+    ∷ kernel_step 0 (Remap 1622016 12288 12288 3 1060864) (Ok (Returned 1060864)) (Some (plain 256 258 rw ∷ plain 259 265 rw ∷ plain 393 396 rw ∷ []))
     ∷ []
 
 -- hard_131: the kernel
@@ -466,36 +476,36 @@ hard_131_on = record { rules = linux_6_18; machine = record { lowest_built = 16;
 -- hard_131: its answers
 abbrev pub hard_131 : List Step
 hard_131 =
-    step 0 (Map 1105920 8192 rw 17 (pos 4) 8192) (Err 13) (Some ([]))
-    ∷ step 0 (Map 0 2097152 rw 34 (negsuc 0) 0) (Ok (Returned 140737349943296)) (Some (plain 34359704576 34359705088 rw ∷ []))
-    ∷ step 0 (Remap 140737349947392 2093056 2088960 0 0) (Ok (Returned 140737349947392)) (Some (plain 34359704576 34359705087 rw ∷ []))
-    ∷ step 0 (Map 0 2093056 rw 34 (negsuc 0) 0) (Ok (Returned 140737352040448)) (Some (plain 34359704576 34359705087 rw ∷ plain 34359705088 34359705599 rw ∷ []))
-    ∷ step 0 (Map 0 2093056 none 34 (negsuc 0) 0) (Ok (Returned 140737347850240)) (Some (plain 34359704065 34359704576 none ∷ plain 34359704576 34359705087 rw ∷ plain 34359705088 34359705599 rw ∷ []))
-    ∷ step 0 (Touch 34359704065 Read) (Ok (Signal AccErr)) None
-    ∷ step 0 (Protect 140737352056832 32768 rw) (Ok (Returned 0)) (Some (plain 34359704065 34359704576 none ∷ plain 34359704576 34359705087 rw ∷ plain 34359705088 34359705599 rw ∷ []))
-    ∷ step 0 (Touch 34359705543 Exec) (Ok (Signal AccErr)) None
-    ∷ step 0 (Break 1077256) (Ok (Returned 1077256)) (Some (heap 259 264 rw ∷ plain 34359704065 34359704576 none ∷ plain 34359704576 34359705087 rw ∷ plain 34359705088 34359705599 rw ∷ []))
-    ∷ step 0 (Remap 1060864 16384 8192 0 0) (Ok (Returned 1060864)) (Some (heap 259 261 rw ∷ heap 263 264 rw ∷ plain 34359704065 34359704576 none ∷ plain 34359704576 34359705087 rw ∷ plain 34359705088 34359705599 rw ∷ []))
-    ∷ step 0 (Unmap 1060864 8192) (Ok (Returned 0)) (Some (heap 263 264 rw ∷ plain 34359704065 34359704576 none ∷ plain 34359704576 34359705087 rw ∷ plain 34359705088 34359705599 rw ∷ []))
-    ∷ step 0 (Protect 1077248 4096 rw) (Ok (Returned 0)) (Some (heap 263 264 rw ∷ plain 34359704065 34359704576 none ∷ plain 34359704576 34359705087 rw ∷ plain 34359705088 34359705599 rw ∷ []))
-    ∷ step 0 (Remap 1077248 4096 4096 5 0) (Ok (Returned 140737352036352)) (Some (heap 263 264 rw ∷ plain 34359704065 34359704576 none ∷ plain 34359704576 34359705599 rw ∷ []))
-    ∷ step 0 (Touch 263 Write) (Ok (Serves 263 264 rw false 0)) None
-    ∷ step 0 (Remap 1077248 4096 4096 7 1077248) (Err 22) (Some (heap 263 264 rw ∷ plain 34359704065 34359704576 none ∷ plain 34359704576 34359705599 rw ∷ []))
-    ∷ step 0 (Touch 263 Read) (Ok (Serves 263 264 rw false 0)) None
-    ∷ step 0 (Map 0 2093056 rw 33 (negsuc 0) 0) (Ok (Returned 140737345757184)) (Some (heap 263 264 rw ∷ filed 34359703554 34359704065 rw true 0 3 ∷ plain 34359704065 34359704576 none ∷ plain 34359704576 34359705599 rw ∷ []))
-    ∷ step 0 (Protect 1077248 4096 rw) (Ok (Returned 0)) (Some (heap 263 264 rw ∷ filed 34359703554 34359704065 rw true 0 3 ∷ plain 34359704065 34359704576 none ∷ plain 34359704576 34359705599 rw ∷ []))
-    ∷ step 0 (Touch 263 Exec) (Ok (Signal AccErr)) None
-    ∷ step 0 (Map 0 4096 x 34 (negsuc 0) 0) (Ok (Returned 140737345753088)) (Some (heap 263 264 rw ∷ plain 34359703553 34359703554 x ∷ filed 34359703554 34359704065 rw true 0 3 ∷ plain 34359704065 34359704576 none ∷ plain 34359704576 34359705599 rw ∷ []))
-    ∷ step 0 (Touch 263 Write) (Ok (Serves 263 264 rw false 0)) None
-    ∷ step 0 (Map 0 16384 r 34 (negsuc 0) 0) (Ok (Returned 140737345736704)) (Some (heap 263 264 rw ∷ plain 34359703549 34359703553 r ∷ plain 34359703553 34359703554 x ∷ filed 34359703554 34359704065 rw true 0 3 ∷ plain 34359704065 34359704576 none ∷ plain 34359704576 34359705599 rw ∷ []))
-    ∷ step 0 (Unmap 1077248 16384) (Ok (Returned 0)) (Some (plain 34359703549 34359703553 r ∷ plain 34359703553 34359703554 x ∷ filed 34359703554 34359704065 rw true 0 3 ∷ plain 34359704065 34359704576 none ∷ plain 34359704576 34359705599 rw ∷ []))
-    ∷ step 0 (Map 140737354133504 12288 rw 49 (negsuc 0) 0) (Ok (Returned 140737354133504)) (Some (plain 34359703549 34359703553 r ∷ plain 34359703553 34359703554 x ∷ filed 34359703554 34359704065 rw true 0 3 ∷ plain 34359704065 34359704576 none ∷ plain 34359704576 34359705599 rw ∷ filed 34359705599 34359705602 rw true 0 4 ∷ []))
-    ∷ step 0 (Break 1089536) (Ok (Returned 1089536)) (Some (heap 264 266 rw ∷ plain 34359703549 34359703553 r ∷ plain 34359703553 34359703554 x ∷ filed 34359703554 34359704065 rw true 0 3 ∷ plain 34359704065 34359704576 none ∷ plain 34359704576 34359705599 rw ∷ filed 34359705599 34359705602 rw true 0 4 ∷ []))
-    ∷ step 0 (Map 1122304 12288 rw 50 (negsuc 0) 0) (Ok (Returned 1122304)) (Some (heap 264 266 rw ∷ plain 274 277 rw ∷ plain 34359703549 34359703553 r ∷ plain 34359703553 34359703554 x ∷ filed 34359703554 34359704065 rw true 0 3 ∷ plain 34359704065 34359704576 none ∷ plain 34359704576 34359705599 rw ∷ filed 34359705599 34359705602 rw true 0 4 ∷ []))
-    ∷ step 0 (Fork 1) (Ok (Returned 0)) (Some (heap 264 266 rw ∷ plain 274 277 rw ∷ plain 34359703549 34359703553 r ∷ plain 34359703553 34359703554 x ∷ filed 34359703554 34359704065 rw true 0 3 ∷ plain 34359704065 34359704576 none ∷ plain 34359704576 34359705599 rw ∷ filed 34359705599 34359705602 rw true 0 4 ∷ []))
-    ∷ step 1 (Touch 264 Exec) (Ok (Signal AccErr)) None
-    ∷ step 1 (Remap 1122304 12288 12288 7 1114112) (Err 22) (Some (heap 264 266 rw ∷ plain 274 277 rw ∷ plain 34359703549 34359703553 r ∷ plain 34359703553 34359703554 x ∷ filed 34359703554 34359704065 rw true 0 3 ∷ plain 34359704065 34359704576 none ∷ plain 34359704576 34359705599 rw ∷ filed 34359705599 34359705602 rw true 0 4 ∷ []))
-    ∷ step 1 (Map 1093632 16384 rx 50 (negsuc 0) 0) (Ok (Returned 1093632)) (Some (heap 264 266 rw ∷ plain 267 271 rx ∷ plain 274 277 rw ∷ plain 34359703549 34359703553 r ∷ plain 34359703553 34359703554 x ∷ filed 34359703554 34359704065 rw true 0 3 ∷ plain 34359704065 34359704576 none ∷ plain 34359704576 34359705599 rw ∷ filed 34359705599 34359705602 rw true 0 4 ∷ []))
+    kernel_step 0 (Map 1105920 8192 rw 17 (pos 4) 8192) (Err 13) (Some ([]))
+    ∷ kernel_step 0 (Map 0 2097152 rw 34 (negsuc 0) 0) (Ok (Returned 140737349943296)) (Some (plain 34359704576 34359705088 rw ∷ []))
+    ∷ kernel_step 0 (Remap 140737349947392 2093056 2088960 0 0) (Ok (Returned 140737349947392)) (Some (plain 34359704576 34359705087 rw ∷ []))
+    ∷ kernel_step 0 (Map 0 2093056 rw 34 (negsuc 0) 0) (Ok (Returned 140737352040448)) (Some (plain 34359704576 34359705087 rw ∷ plain 34359705088 34359705599 rw ∷ []))
+    ∷ kernel_step 0 (Map 0 2093056 none 34 (negsuc 0) 0) (Ok (Returned 140737347850240)) (Some (plain 34359704065 34359704576 none ∷ plain 34359704576 34359705087 rw ∷ plain 34359705088 34359705599 rw ∷ []))
+    ∷ kernel_step 0 (Touch 34359704065 Read) (Ok (Signal AccErr)) None
+    ∷ kernel_step 0 (Protect 140737352056832 32768 rw) (Ok (Returned 0)) (Some (plain 34359704065 34359704576 none ∷ plain 34359704576 34359705087 rw ∷ plain 34359705088 34359705599 rw ∷ []))
+    ∷ kernel_step 0 (Touch 34359705543 Exec) (Ok (Signal AccErr)) None
+    ∷ kernel_step 0 (Break 1077256) (Ok (Returned 1077256)) (Some (heap 259 264 rw ∷ plain 34359704065 34359704576 none ∷ plain 34359704576 34359705087 rw ∷ plain 34359705088 34359705599 rw ∷ []))
+    ∷ kernel_step 0 (Remap 1060864 16384 8192 0 0) (Ok (Returned 1060864)) (Some (heap 259 261 rw ∷ heap 263 264 rw ∷ plain 34359704065 34359704576 none ∷ plain 34359704576 34359705087 rw ∷ plain 34359705088 34359705599 rw ∷ []))
+    ∷ kernel_step 0 (Unmap 1060864 8192) (Ok (Returned 0)) (Some (heap 263 264 rw ∷ plain 34359704065 34359704576 none ∷ plain 34359704576 34359705087 rw ∷ plain 34359705088 34359705599 rw ∷ []))
+    ∷ kernel_step 0 (Protect 1077248 4096 rw) (Ok (Returned 0)) (Some (heap 263 264 rw ∷ plain 34359704065 34359704576 none ∷ plain 34359704576 34359705087 rw ∷ plain 34359705088 34359705599 rw ∷ []))
+    ∷ kernel_step 0 (Remap 1077248 4096 4096 5 0) (Ok (Returned 140737352036352)) (Some (heap 263 264 rw ∷ plain 34359704065 34359704576 none ∷ plain 34359704576 34359705599 rw ∷ []))
+    ∷ kernel_step 0 (Touch 263 Write) (Ok (Serves 263 264 rw false 0)) None
+    ∷ kernel_step 0 (Remap 1077248 4096 4096 7 1077248) (Err 22) (Some (heap 263 264 rw ∷ plain 34359704065 34359704576 none ∷ plain 34359704576 34359705599 rw ∷ []))
+    ∷ kernel_step 0 (Touch 263 Read) (Ok (Serves 263 264 rw false 0)) None
+    ∷ kernel_step 0 (Map 0 2093056 rw 33 (negsuc 0) 0) (Ok (Returned 140737345757184)) (Some (heap 263 264 rw ∷ filed 34359703554 34359704065 rw true 0 3 ∷ plain 34359704065 34359704576 none ∷ plain 34359704576 34359705599 rw ∷ []))
+    ∷ kernel_step 0 (Protect 1077248 4096 rw) (Ok (Returned 0)) (Some (heap 263 264 rw ∷ filed 34359703554 34359704065 rw true 0 3 ∷ plain 34359704065 34359704576 none ∷ plain 34359704576 34359705599 rw ∷ []))
+    ∷ kernel_step 0 (Touch 263 Exec) (Ok (Signal AccErr)) None
+    ∷ kernel_step 0 (Map 0 4096 x 34 (negsuc 0) 0) (Ok (Returned 140737345753088)) (Some (heap 263 264 rw ∷ plain 34359703553 34359703554 x ∷ filed 34359703554 34359704065 rw true 0 3 ∷ plain 34359704065 34359704576 none ∷ plain 34359704576 34359705599 rw ∷ []))
+    ∷ kernel_step 0 (Touch 263 Write) (Ok (Serves 263 264 rw false 0)) None
+    ∷ kernel_step 0 (Map 0 16384 r 34 (negsuc 0) 0) (Ok (Returned 140737345736704)) (Some (heap 263 264 rw ∷ plain 34359703549 34359703553 r ∷ plain 34359703553 34359703554 x ∷ filed 34359703554 34359704065 rw true 0 3 ∷ plain 34359704065 34359704576 none ∷ plain 34359704576 34359705599 rw ∷ []))
+    ∷ kernel_step 0 (Unmap 1077248 16384) (Ok (Returned 0)) (Some (plain 34359703549 34359703553 r ∷ plain 34359703553 34359703554 x ∷ filed 34359703554 34359704065 rw true 0 3 ∷ plain 34359704065 34359704576 none ∷ plain 34359704576 34359705599 rw ∷ []))
+    ∷ kernel_step 0 (Map 140737354133504 12288 rw 49 (negsuc 0) 0) (Ok (Returned 140737354133504)) (Some (plain 34359703549 34359703553 r ∷ plain 34359703553 34359703554 x ∷ filed 34359703554 34359704065 rw true 0 3 ∷ plain 34359704065 34359704576 none ∷ plain 34359704576 34359705599 rw ∷ filed 34359705599 34359705602 rw true 0 4 ∷ []))
+    ∷ kernel_step 0 (Break 1089536) (Ok (Returned 1089536)) (Some (heap 264 266 rw ∷ plain 34359703549 34359703553 r ∷ plain 34359703553 34359703554 x ∷ filed 34359703554 34359704065 rw true 0 3 ∷ plain 34359704065 34359704576 none ∷ plain 34359704576 34359705599 rw ∷ filed 34359705599 34359705602 rw true 0 4 ∷ []))
+    ∷ kernel_step 0 (Map 1122304 12288 rw 50 (negsuc 0) 0) (Ok (Returned 1122304)) (Some (heap 264 266 rw ∷ plain 274 277 rw ∷ plain 34359703549 34359703553 r ∷ plain 34359703553 34359703554 x ∷ filed 34359703554 34359704065 rw true 0 3 ∷ plain 34359704065 34359704576 none ∷ plain 34359704576 34359705599 rw ∷ filed 34359705599 34359705602 rw true 0 4 ∷ []))
+    ∷ kernel_step 0 (Fork 1) (Ok (Returned 0)) (Some (heap 264 266 rw ∷ plain 274 277 rw ∷ plain 34359703549 34359703553 r ∷ plain 34359703553 34359703554 x ∷ filed 34359703554 34359704065 rw true 0 3 ∷ plain 34359704065 34359704576 none ∷ plain 34359704576 34359705599 rw ∷ filed 34359705599 34359705602 rw true 0 4 ∷ []))
+    ∷ kernel_step 1 (Touch 264 Exec) (Ok (Signal AccErr)) None
+    ∷ kernel_step 1 (Remap 1122304 12288 12288 7 1114112) (Err 22) (Some (heap 264 266 rw ∷ plain 274 277 rw ∷ plain 34359703549 34359703553 r ∷ plain 34359703553 34359703554 x ∷ filed 34359703554 34359704065 rw true 0 3 ∷ plain 34359704065 34359704576 none ∷ plain 34359704576 34359705599 rw ∷ filed 34359705599 34359705602 rw true 0 4 ∷ []))
+    ∷ kernel_step 1 (Map 1093632 16384 rx 50 (negsuc 0) 0) (Ok (Returned 1093632)) (Some (heap 264 266 rw ∷ plain 267 271 rx ∷ plain 274 277 rw ∷ plain 34359703549 34359703553 r ∷ plain 34359703553 34359703554 x ∷ filed 34359703554 34359704065 rw true 0 3 ∷ plain 34359704065 34359704576 none ∷ plain 34359704576 34359705599 rw ∷ filed 34359705599 34359705602 rw true 0 4 ∷ []))
     ∷ []
 
 -- written_limit_151: the kernel
@@ -505,36 +515,36 @@ written_limit_151_on = record { rules = linux_6_18; machine = record { lowest_bu
 -- written_limit_151: its answers
 abbrev pub written_limit_151 : List Step
 written_limit_151 =
-    step 0 (Map 1048576 16384 rw 50 (negsuc 0) 0) (Ok (Returned 1048576)) (Some (plain 256 260 rw ∷ []))
-    ∷ step 0 (Map 1085440 12288 rw 50 (negsuc 0) 0) (Ok (Returned 1085440)) (Some (plain 256 260 rw ∷ plain 265 268 rw ∷ []))
-    ∷ step 0 (Protect 1093632 16384 rw) (Err 12) (Some (plain 256 260 rw ∷ plain 265 268 rw ∷ []))
-    ∷ step 0 (Touch 266 Write) (Ok (Serves 265 268 rw false 0)) None
-    ∷ step 0 (Protect 1085440 16384 rw) (Err 12) (Some (plain 256 260 rw ∷ plain 265 268 rw ∷ []))
-    ∷ step 0 (Fork 1) (Ok (Returned 0)) None
-    ∷ step 0 (Map 1085440 16384 rw 50 (negsuc 0) 0) (Ok (Returned 1085440)) (Some (plain 256 260 rw ∷ plain 265 269 rw ∷ []))
-    ∷ step 1 (Touch 266 Write) (Ok (Serves 265 268 rw false 0)) None
-    ∷ step 1 (Remap 1085440 8192 8192 3 1572864) (Ok (Returned 1572864)) (Some (plain 256 260 rw ∷ plain 267 268 rw ∷ plain 384 386 rw ∷ []))
-    ∷ step 1 (Remap 1572864 8192 8192 3 1085440) (Err 12) (Some (plain 256 260 rw ∷ plain 267 268 rw ∷ plain 384 386 rw ∷ []))
-    ∷ step 0 (Protect 1077248 12288 rw) (Err 12) (Some (plain 256 260 rw ∷ plain 265 269 rw ∷ []))
-    ∷ step 1 (Touch 266 Write) (Ok (Signal MapErr)) None
-    ∷ step 1 (Touch 385 Write) (Ok (Serves 384 386 rw false 0)) None
-    ∷ step 1 (Remap 1048576 16384 16384 3 1642496) (Err 12) (Some (plain 256 260 rw ∷ plain 267 268 rw ∷ plain 384 386 rw ∷ []))
-    ∷ step 1 (Touch 257 Write) (Ok (Serves 256 260 rw false 0)) None
-    ∷ step 0 (Fork 2) (Ok (Returned 0)) None
-    ∷ step 0 (Protect 1081344 8192 rw) (Err 12) (Some (plain 256 260 rw ∷ plain 265 269 rw ∷ []))
-    ∷ step 2 (Protect 1048576 4096 rw) (Ok (Returned 0)) (Some (plain 256 260 rw ∷ plain 265 269 rw ∷ []))
-    ∷ step 1 (Map 1085440 4096 rw 50 (negsuc 0) 0) (Ok (Returned 1085440)) (Some (plain 256 260 rw ∷ plain 265 266 rw ∷ plain 267 268 rw ∷ plain 384 386 rw ∷ []))
-    ∷ step 1 (Map 1052672 4096 rw 16434 (negsuc 0) 0) (Ok (Returned 1052672)) (Some (plain 256 257 rw ∷ plain 257 258 rw ∷ plain 258 260 rw ∷ plain 265 266 rw ∷ plain 267 268 rw ∷ plain 384 386 rw ∷ []))
-    ∷ step 2 (Touch 267 Write) (Ok (Serves 265 269 rw false 0)) None
-    ∷ step 0 (Fork 3) (Ok (Returned 0)) None
-    ∷ step 0 (Touch 268 Write) (Ok (Serves 265 269 rw false 0)) None
-    ∷ step 2 (Touch 265 Write) (Ok (Serves 265 269 rw false 0)) None
-    ∷ step 3 (Touch 267 Write) (Ok (Serves 265 269 rw false 0)) (Some (plain 256 260 rw ∷ plain 265 269 rw ∷ []))
-    ∷ step 0 (Protect 1085440 16384 rw) (Ok (Returned 0)) (Some (plain 256 260 rw ∷ plain 265 269 rw ∷ []))
-    ∷ step 2 (Remap 1056768 24576 24576 3 1085440) (Ok (Returned 1085440)) (Some (plain 256 258 rw ∷ plain 265 269 rw ∷ []))
-    ∷ step 2 (Map 1081344 8192 rw 50 (negsuc 0) 0) (Ok (Returned 1081344)) (Some (plain 256 258 rw ∷ plain 264 269 rw ∷ []))
-    ∷ step 2 (Protect 1052672 20480 rw) (Err 12) (Some (plain 256 258 rw ∷ plain 264 269 rw ∷ []))
-    ∷ step 2 (Protect 1064960 4096 rw) (Err 12) (Some (plain 256 258 rw ∷ plain 264 269 rw ∷ []))
+    kernel_step 0 (Map 1048576 16384 rw 50 (negsuc 0) 0) (Ok (Returned 1048576)) (Some (plain 256 260 rw ∷ []))
+    ∷ kernel_step 0 (Map 1085440 12288 rw 50 (negsuc 0) 0) (Ok (Returned 1085440)) (Some (plain 256 260 rw ∷ plain 265 268 rw ∷ []))
+    ∷ kernel_step 0 (Protect 1093632 16384 rw) (Err 12) (Some (plain 256 260 rw ∷ plain 265 268 rw ∷ []))
+    ∷ kernel_step 0 (Touch 266 Write) (Ok (Serves 265 268 rw false 0)) None
+    ∷ kernel_step 0 (Protect 1085440 16384 rw) (Err 12) (Some (plain 256 260 rw ∷ plain 265 268 rw ∷ []))
+    ∷ kernel_step 0 (Fork 1) (Ok (Returned 0)) None
+    ∷ kernel_step 0 (Map 1085440 16384 rw 50 (negsuc 0) 0) (Ok (Returned 1085440)) (Some (plain 256 260 rw ∷ plain 265 269 rw ∷ []))
+    ∷ kernel_step 1 (Touch 266 Write) (Ok (Serves 265 268 rw false 0)) None
+    ∷ kernel_step 1 (Remap 1085440 8192 8192 3 1572864) (Ok (Returned 1572864)) (Some (plain 256 260 rw ∷ plain 267 268 rw ∷ plain 384 386 rw ∷ []))
+    ∷ kernel_step 1 (Remap 1572864 8192 8192 3 1085440) (Err 12) (Some (plain 256 260 rw ∷ plain 267 268 rw ∷ plain 384 386 rw ∷ []))
+    ∷ kernel_step 0 (Protect 1077248 12288 rw) (Err 12) (Some (plain 256 260 rw ∷ plain 265 269 rw ∷ []))
+    ∷ kernel_step 1 (Touch 266 Write) (Ok (Signal MapErr)) None
+    ∷ kernel_step 1 (Touch 385 Write) (Ok (Serves 384 386 rw false 0)) None
+    ∷ kernel_step 1 (Remap 1048576 16384 16384 3 1642496) (Err 12) (Some (plain 256 260 rw ∷ plain 267 268 rw ∷ plain 384 386 rw ∷ []))
+    ∷ kernel_step 1 (Touch 257 Write) (Ok (Serves 256 260 rw false 0)) None
+    ∷ kernel_step 0 (Fork 2) (Ok (Returned 0)) None
+    ∷ kernel_step 0 (Protect 1081344 8192 rw) (Err 12) (Some (plain 256 260 rw ∷ plain 265 269 rw ∷ []))
+    ∷ kernel_step 2 (Protect 1048576 4096 rw) (Ok (Returned 0)) (Some (plain 256 260 rw ∷ plain 265 269 rw ∷ []))
+    ∷ kernel_step 1 (Map 1085440 4096 rw 50 (negsuc 0) 0) (Ok (Returned 1085440)) (Some (plain 256 260 rw ∷ plain 265 266 rw ∷ plain 267 268 rw ∷ plain 384 386 rw ∷ []))
+    ∷ kernel_step 1 (Map 1052672 4096 rw 16434 (negsuc 0) 0) (Ok (Returned 1052672)) (Some (plain 256 257 rw ∷ plain 257 258 rw ∷ plain 258 260 rw ∷ plain 265 266 rw ∷ plain 267 268 rw ∷ plain 384 386 rw ∷ []))
+    ∷ kernel_step 2 (Touch 267 Write) (Ok (Serves 265 269 rw false 0)) None
+    ∷ kernel_step 0 (Fork 3) (Ok (Returned 0)) None
+    ∷ kernel_step 0 (Touch 268 Write) (Ok (Serves 265 269 rw false 0)) None
+    ∷ kernel_step 2 (Touch 265 Write) (Ok (Serves 265 269 rw false 0)) None
+    ∷ kernel_step 3 (Touch 267 Write) (Ok (Serves 265 269 rw false 0)) (Some (plain 256 260 rw ∷ plain 265 269 rw ∷ []))
+    ∷ kernel_step 0 (Protect 1085440 16384 rw) (Ok (Returned 0)) (Some (plain 256 260 rw ∷ plain 265 269 rw ∷ []))
+    ∷ kernel_step 2 (Remap 1056768 24576 24576 3 1085440) (Ok (Returned 1085440)) (Some (plain 256 258 rw ∷ plain 265 269 rw ∷ []))
+    ∷ kernel_step 2 (Map 1081344 8192 rw 50 (negsuc 0) 0) (Ok (Returned 1081344)) (Some (plain 256 258 rw ∷ plain 264 269 rw ∷ []))
+    ∷ kernel_step 2 (Protect 1052672 20480 rw) (Err 12) (Some (plain 256 258 rw ∷ plain 264 269 rw ∷ []))
+    ∷ kernel_step 2 (Protect 1064960 4096 rw) (Err 12) (Some (plain 256 258 rw ∷ plain 264 269 rw ∷ []))
     ∷ []
 
 -- hard_160: the kernel
@@ -544,36 +554,36 @@ hard_160_on = record { rules = linux_6_18; machine = record { lowest_built = 16;
 -- hard_160: its answers
 abbrev pub hard_160 : List Step
 hard_160 =
-    step 0 (Map 1118208 4096 rwx 18 (pos 3) 12288) (Err 13) (Some ([]))
-    ∷ step 0 (Map 1077248 12288 x 50 (negsuc 0) 0) (Ok (Returned 1077248)) (Some (plain 263 266 x ∷ []))
-    ∷ step 0 (Fork 1) (Ok (Returned 0)) None
-    ∷ step 1 (Remap 1077248 12288 12288 3 1069056) (Err 22) (Some (plain 263 266 x ∷ []))
-    ∷ step 1 (Touch 271 Write) (Ok (Signal MapErr)) None
-    ∷ step 1 (Protect 1077248 12288 r) (Ok (Returned 0)) (Some (plain 263 266 r ∷ []))
-    ∷ step 1 (Unmap 1077248 12288) (Ok (Returned 0)) (Some ([]))
-    ∷ step 0 (Map 0 3145728 x 34 (negsuc 0) 0) (Ok (Returned 140737350987776)) (Some (plain 263 266 x ∷ plain 34359704831 34359705599 x ∷ []))
-    ∷ step 1 (Remap 1089536 20480 20480 3 1101824) (Err 22) (Some ([]))
-    ∷ step 0 (Map 1085440 8192 x 50 (negsuc 0) 0) (Ok (Returned 1085440)) (Some (plain 263 267 x ∷ plain 34359704831 34359705599 x ∷ []))
-    ∷ step 0 (Map 1101824 4096 r 32769 (pos 4) 4096) (Err 13) (Some (plain 263 267 x ∷ plain 34359704831 34359705599 x ∷ []))
-    ∷ step 1 (Unmap 1097728 16384) (Ok (Returned 0)) (Some ([]))
-    ∷ step 0 (Touch 266 Write) (Ok (Signal PkuErr)) None
-    ∷ step 0 (Touch 266 Write) (Ok (Signal PkuErr)) None
-    ∷ step 0 (Touch 264 Read) (Ok (Signal PkuErr)) None
-    ∷ step 0 (Protect 1077248 16384 x) (Ok (Returned 0)) (Some (plain 263 267 x ∷ plain 34359704831 34359705599 x ∷ []))
-    ∷ step 1 (Map 1085440 12288 r 50 (negsuc 0) 0) (Ok (Returned 1085440)) (Some (plain 265 268 r ∷ []))
-    ∷ step 0 (Unmap 1077248 16384) (Ok (Returned 0)) (Some (plain 34359704831 34359705599 x ∷ []))
-    ∷ step 0 (Map 1060864 4096 none 50 (negsuc 0) 0) (Ok (Returned 1060864)) (Some (plain 259 260 none ∷ plain 34359704831 34359705599 x ∷ []))
-    ∷ step 1 (Map 1101824 8192 none 1048609 (negsuc 0) 0) (Ok (Returned 1101824)) (Some (plain 265 268 r ∷ filed 269 271 none true 0 4 ∷ []))
-    ∷ step 0 (Fork 2) (Ok (Returned 0)) None
-    ∷ step 0 (Map 0 68719476736 x 34 (negsuc 0) 0) (Ok (Returned 140668630466560)) (Some (plain 259 260 none ∷ plain 34342927360 34359704576 x ∷ plain 34359704831 34359705599 x ∷ []))
-    ∷ step 2 (Touch 272 Write) (Ok (Signal MapErr)) None
-    ∷ step 1 (Touch 269 Read) (Ok (Signal AccErr)) (Some (plain 265 268 r ∷ filed 269 271 none true 0 4 ∷ []))
-    ∷ step 0 (Map 0 2097152 r 34 (negsuc 0) 0) (Ok (Returned 140668628369408)) (Some (plain 259 260 none ∷ plain 34342926848 34342927360 r ∷ plain 34342927360 34359704576 x ∷ plain 34359704831 34359705599 x ∷ []))
-    ∷ step 2 (Touch 274 Write) (Ok (Signal MapErr)) None
-    ∷ step 0 (Touch 259 Write) (Ok (Signal AccErr)) None
-    ∷ step 2 (Touch 259 Write) (Ok (Signal AccErr)) None
-    ∷ step 0 (Remap 1060864 4096 4096 5 0) (Ok (Returned 140737350983680)) (Some (plain 259 260 none ∷ plain 34342926848 34342927360 r ∷ plain 34342927360 34359704576 x ∷ plain 34359704830 34359704831 none ∷ plain 34359704831 34359705599 x ∷ []))
-    ∷ step 2 (Protect 1060864 4096 r) (Ok (Returned 0)) (Some (plain 259 260 r ∷ plain 34359704831 34359705599 x ∷ []))
+    kernel_step 0 (Map 1118208 4096 rwx 18 (pos 3) 12288) (Err 13) (Some ([]))
+    ∷ kernel_step 0 (Map 1077248 12288 x 50 (negsuc 0) 0) (Ok (Returned 1077248)) (Some (plain 263 266 x ∷ []))
+    ∷ kernel_step 0 (Fork 1) (Ok (Returned 0)) None
+    ∷ kernel_step 1 (Remap 1077248 12288 12288 3 1069056) (Err 22) (Some (plain 263 266 x ∷ []))
+    ∷ kernel_step 1 (Touch 271 Write) (Ok (Signal MapErr)) None
+    ∷ kernel_step 1 (Protect 1077248 12288 r) (Ok (Returned 0)) (Some (plain 263 266 r ∷ []))
+    ∷ kernel_step 1 (Unmap 1077248 12288) (Ok (Returned 0)) (Some ([]))
+    ∷ kernel_step 0 (Map 0 3145728 x 34 (negsuc 0) 0) (Ok (Returned 140737350987776)) (Some (plain 263 266 x ∷ plain 34359704831 34359705599 x ∷ []))
+    ∷ kernel_step 1 (Remap 1089536 20480 20480 3 1101824) (Err 22) (Some ([]))
+    ∷ kernel_step 0 (Map 1085440 8192 x 50 (negsuc 0) 0) (Ok (Returned 1085440)) (Some (plain 263 267 x ∷ plain 34359704831 34359705599 x ∷ []))
+    ∷ kernel_step 0 (Map 1101824 4096 r 32769 (pos 4) 4096) (Err 13) (Some (plain 263 267 x ∷ plain 34359704831 34359705599 x ∷ []))
+    ∷ kernel_step 1 (Unmap 1097728 16384) (Ok (Returned 0)) (Some ([]))
+    ∷ kernel_step 0 (Touch 266 Write) (Ok (Signal PkuErr)) None
+    ∷ kernel_step 0 (Touch 266 Write) (Ok (Signal PkuErr)) None
+    ∷ kernel_step 0 (Touch 264 Read) (Ok (Signal PkuErr)) None
+    ∷ kernel_step 0 (Protect 1077248 16384 x) (Ok (Returned 0)) (Some (plain 263 267 x ∷ plain 34359704831 34359705599 x ∷ []))
+    ∷ kernel_step 1 (Map 1085440 12288 r 50 (negsuc 0) 0) (Ok (Returned 1085440)) (Some (plain 265 268 r ∷ []))
+    ∷ kernel_step 0 (Unmap 1077248 16384) (Ok (Returned 0)) (Some (plain 34359704831 34359705599 x ∷ []))
+    ∷ kernel_step 0 (Map 1060864 4096 none 50 (negsuc 0) 0) (Ok (Returned 1060864)) (Some (plain 259 260 none ∷ plain 34359704831 34359705599 x ∷ []))
+    ∷ kernel_step 1 (Map 1101824 8192 none 1048609 (negsuc 0) 0) (Ok (Returned 1101824)) (Some (plain 265 268 r ∷ filed 269 271 none true 0 4 ∷ []))
+    ∷ kernel_step 0 (Fork 2) (Ok (Returned 0)) None
+    ∷ kernel_step 0 (Map 0 68719476736 x 34 (negsuc 0) 0) (Ok (Returned 140668630466560)) (Some (plain 259 260 none ∷ plain 34342927360 34359704576 x ∷ plain 34359704831 34359705599 x ∷ []))
+    ∷ kernel_step 2 (Touch 272 Write) (Ok (Signal MapErr)) None
+    ∷ kernel_step 1 (Touch 269 Read) (Ok (Signal AccErr)) (Some (plain 265 268 r ∷ filed 269 271 none true 0 4 ∷ []))
+    ∷ kernel_step 0 (Map 0 2097152 r 34 (negsuc 0) 0) (Ok (Returned 140668628369408)) (Some (plain 259 260 none ∷ plain 34342926848 34342927360 r ∷ plain 34342927360 34359704576 x ∷ plain 34359704831 34359705599 x ∷ []))
+    ∷ kernel_step 2 (Touch 274 Write) (Ok (Signal MapErr)) None
+    ∷ kernel_step 0 (Touch 259 Write) (Ok (Signal AccErr)) None
+    ∷ kernel_step 2 (Touch 259 Write) (Ok (Signal AccErr)) None
+    ∷ kernel_step 0 (Remap 1060864 4096 4096 5 0) (Ok (Returned 140737350983680)) (Some (plain 259 260 none ∷ plain 34342926848 34342927360 r ∷ plain 34342927360 34359704576 x ∷ plain 34359704830 34359704831 none ∷ plain 34359704831 34359705599 x ∷ []))
+    ∷ kernel_step 2 (Protect 1060864 4096 r) (Ok (Returned 0)) (Some (plain 259 260 r ∷ plain 34359704831 34359705599 x ∷ []))
     ∷ []
 
 -- written_166: the kernel
@@ -583,36 +593,36 @@ written_166_on = record { rules = linux_6_18; machine = record { lowest_built = 
 -- written_166: its answers
 abbrev pub written_166 : List Step
 written_166 =
-    step 0 (Map 1064960 16384 rw 50 (negsuc 0) 0) (Ok (Returned 1064960)) (Some (plain 260 264 rw ∷ []))
-    ∷ step 0 (Map 1052672 8192 rw 50 (negsuc 0) 0) (Ok (Returned 1052672)) (Some (plain 257 259 rw ∷ plain 260 264 rw ∷ []))
-    ∷ step 0 (Touch 258 Write) (Ok (Serves 257 259 rw false 0)) None
-    ∷ step 0 (Touch 258 Write) (Ok (Serves 257 259 rw false 0)) None
-    ∷ step 0 (Touch 258 Write) (Ok (Serves 257 259 rw false 0)) None
-    ∷ step 0 (Touch 257 Write) (Ok (Serves 257 259 rw false 0)) None
-    ∷ step 0 (Touch 260 Write) (Ok (Serves 260 264 rw false 0)) None
-    ∷ step 0 (Protect 1064960 12288 rw) (Ok (Returned 0)) (Some (plain 257 259 rw ∷ plain 260 264 rw ∷ []))
-    ∷ step 0 (Map 1064960 34359758848 r 50 (negsuc 0) 0) (Ok (Returned 1064960)) (Some (plain 257 259 rw ∷ plain 260 8388873 r ∷ []))
-    ∷ step 0 (Remap 1056768 12288 12288 7 1642496) (Ok (Returned 1642496)) (Some (plain 257 259 rw ∷ plain 260 401 r ∷ plain 401 402 rw ∷ plain 402 8388873 r ∷ []))
-    ∷ step 0 (Touch 257 Write) (Ok (Serves 257 259 rw false 0)) None
-    ∷ step 0 (Protect 1052672 589824 r) (Err 12) (Some (plain 257 259 r ∷ plain 260 401 r ∷ plain 401 402 rw ∷ plain 402 8388873 r ∷ []))
-    ∷ step 0 (Map 1064960 12288 rw 50 (negsuc 0) 0) (Ok (Returned 1064960)) (Some (plain 257 259 r ∷ plain 260 263 rw ∷ plain 263 401 r ∷ plain 401 402 rw ∷ plain 402 8388873 r ∷ []))
-    ∷ step 0 (Fork 1) (Ok (Returned 0)) None
-    ∷ step 1 (Remap 1110016 24576 24576 7 1638400) (Ok (Returned 1638400)) (Some (plain 257 259 r ∷ plain 260 263 rw ∷ plain 263 8388873 r ∷ []))
-    ∷ step 1 (Protect 1052672 12288 rw) (Err 12) (Some (plain 257 259 rw ∷ plain 260 263 rw ∷ plain 263 8388873 r ∷ []))
-    ∷ step 1 (Touch 268 Write) (Ok (Signal AccErr)) None
-    ∷ step 1 (Touch 260 Read) (Ok (Serves 260 263 rw false 0)) None
-    ∷ step 0 (Map 1052672 16384 rw 50 (negsuc 0) 0) (Ok (Returned 1052672)) (Some (plain 257 263 rw ∷ plain 263 401 r ∷ plain 401 402 rw ∷ plain 402 8388873 r ∷ []))
-    ∷ step 0 (Touch 258 Write) (Ok (Serves 257 263 rw false 0)) None
-    ∷ step 0 (Protect 1060864 16384 r) (Ok (Returned 0)) (Some (plain 257 259 rw ∷ plain 259 263 r ∷ plain 263 401 r ∷ plain 401 402 rw ∷ plain 402 8388873 r ∷ []))
-    ∷ step 1 (Touch 257 Read) (Ok (Serves 257 259 rw false 0)) None
-    ∷ step 0 (Touch 405 Write) (Ok (Signal AccErr)) None
-    ∷ step 1 (Touch 262 Write) (Ok (Serves 260 263 rw false 0)) None
-    ∷ step 1 (Remap 1638400 24576 24576 3 1110016) (Ok (Returned 1110016)) (Some (plain 257 259 rw ∷ plain 260 263 rw ∷ plain 263 400 r ∷ plain 406 8388873 r ∷ []))
-    ∷ step 0 (Unmap 1052672 4096) (Ok (Returned 0)) (Some (plain 258 259 rw ∷ plain 259 263 r ∷ plain 263 401 r ∷ plain 401 402 rw ∷ plain 402 8388873 r ∷ []))
-    ∷ step 1 (Remap 1642496 12288 12288 3 1056768) (Err 14) (Some (plain 257 259 rw ∷ plain 260 263 rw ∷ plain 263 400 r ∷ plain 406 8388873 r ∷ []))
-    ∷ step 0 (Remap 1056768 20480 20480 3 1605632) (Ok (Returned 1605632)) (Some (plain 263 392 r ∷ plain 392 393 rw ∷ plain 393 397 r ∷ plain 397 401 r ∷ plain 401 402 rw ∷ plain 402 8388873 r ∷ []))
-    ∷ step 1 (Protect 1077248 49152 rw) (Ok (Returned 0)) (Some (plain 257 259 rw ∷ plain 260 275 rw ∷ plain 275 400 r ∷ plain 406 8388873 r ∷ []))
-    ∷ step 0 (Remap 1048576 4096 8192 3 34360823808) (Err 14) (Some (plain 263 392 r ∷ plain 392 393 rw ∷ plain 393 397 r ∷ plain 397 401 r ∷ plain 401 402 rw ∷ plain 402 8388873 r ∷ []))
+    kernel_step 0 (Map 1064960 16384 rw 50 (negsuc 0) 0) (Ok (Returned 1064960)) (Some (plain 260 264 rw ∷ []))
+    ∷ kernel_step 0 (Map 1052672 8192 rw 50 (negsuc 0) 0) (Ok (Returned 1052672)) (Some (plain 257 259 rw ∷ plain 260 264 rw ∷ []))
+    ∷ kernel_step 0 (Touch 258 Write) (Ok (Serves 257 259 rw false 0)) None
+    ∷ kernel_step 0 (Touch 258 Write) (Ok (Serves 257 259 rw false 0)) None
+    ∷ kernel_step 0 (Touch 258 Write) (Ok (Serves 257 259 rw false 0)) None
+    ∷ kernel_step 0 (Touch 257 Write) (Ok (Serves 257 259 rw false 0)) None
+    ∷ kernel_step 0 (Touch 260 Write) (Ok (Serves 260 264 rw false 0)) None
+    ∷ kernel_step 0 (Protect 1064960 12288 rw) (Ok (Returned 0)) (Some (plain 257 259 rw ∷ plain 260 264 rw ∷ []))
+    ∷ kernel_step 0 (Map 1064960 34359758848 r 50 (negsuc 0) 0) (Ok (Returned 1064960)) (Some (plain 257 259 rw ∷ plain 260 8388873 r ∷ []))
+    ∷ kernel_step 0 (Remap 1056768 12288 12288 7 1642496) (Ok (Returned 1642496)) (Some (plain 257 259 rw ∷ plain 260 401 r ∷ plain 401 402 rw ∷ plain 402 8388873 r ∷ []))
+    ∷ kernel_step 0 (Touch 257 Write) (Ok (Serves 257 259 rw false 0)) None
+    ∷ kernel_step 0 (Protect 1052672 589824 r) (Err 12) (Some (plain 257 259 r ∷ plain 260 401 r ∷ plain 401 402 rw ∷ plain 402 8388873 r ∷ []))
+    ∷ kernel_step 0 (Map 1064960 12288 rw 50 (negsuc 0) 0) (Ok (Returned 1064960)) (Some (plain 257 259 r ∷ plain 260 263 rw ∷ plain 263 401 r ∷ plain 401 402 rw ∷ plain 402 8388873 r ∷ []))
+    ∷ kernel_step 0 (Fork 1) (Ok (Returned 0)) None
+    ∷ kernel_step 1 (Remap 1110016 24576 24576 7 1638400) (Ok (Returned 1638400)) (Some (plain 257 259 r ∷ plain 260 263 rw ∷ plain 263 8388873 r ∷ []))
+    ∷ kernel_step 1 (Protect 1052672 12288 rw) (Err 12) (Some (plain 257 259 rw ∷ plain 260 263 rw ∷ plain 263 8388873 r ∷ []))
+    ∷ kernel_step 1 (Touch 268 Write) (Ok (Signal AccErr)) None
+    ∷ kernel_step 1 (Touch 260 Read) (Ok (Serves 260 263 rw false 0)) None
+    ∷ kernel_step 0 (Map 1052672 16384 rw 50 (negsuc 0) 0) (Ok (Returned 1052672)) (Some (plain 257 263 rw ∷ plain 263 401 r ∷ plain 401 402 rw ∷ plain 402 8388873 r ∷ []))
+    ∷ kernel_step 0 (Touch 258 Write) (Ok (Serves 257 263 rw false 0)) None
+    ∷ kernel_step 0 (Protect 1060864 16384 r) (Ok (Returned 0)) (Some (plain 257 259 rw ∷ plain 259 263 r ∷ plain 263 401 r ∷ plain 401 402 rw ∷ plain 402 8388873 r ∷ []))
+    ∷ kernel_step 1 (Touch 257 Read) (Ok (Serves 257 259 rw false 0)) None
+    ∷ kernel_step 0 (Touch 405 Write) (Ok (Signal AccErr)) None
+    ∷ kernel_step 1 (Touch 262 Write) (Ok (Serves 260 263 rw false 0)) None
+    ∷ kernel_step 1 (Remap 1638400 24576 24576 3 1110016) (Ok (Returned 1110016)) (Some (plain 257 259 rw ∷ plain 260 263 rw ∷ plain 263 400 r ∷ plain 406 8388873 r ∷ []))
+    ∷ kernel_step 0 (Unmap 1052672 4096) (Ok (Returned 0)) (Some (plain 258 259 rw ∷ plain 259 263 r ∷ plain 263 401 r ∷ plain 401 402 rw ∷ plain 402 8388873 r ∷ []))
+    ∷ kernel_step 1 (Remap 1642496 12288 12288 3 1056768) (Err 14) (Some (plain 257 259 rw ∷ plain 260 263 rw ∷ plain 263 400 r ∷ plain 406 8388873 r ∷ []))
+    ∷ kernel_step 0 (Remap 1056768 20480 20480 3 1605632) (Ok (Returned 1605632)) (Some (plain 263 392 r ∷ plain 392 393 rw ∷ plain 393 397 r ∷ plain 397 401 r ∷ plain 401 402 rw ∷ plain 402 8388873 r ∷ []))
+    ∷ kernel_step 1 (Protect 1077248 49152 rw) (Ok (Returned 0)) (Some (plain 257 259 rw ∷ plain 260 275 rw ∷ plain 275 400 r ∷ plain 406 8388873 r ∷ []))
+    ∷ kernel_step 0 (Remap 1048576 4096 8192 3 34360823808) (Err 14) (Some (plain 263 392 r ∷ plain 392 393 rw ∷ plain 393 397 r ∷ plain 397 401 r ∷ plain 401 402 rw ∷ plain 402 8388873 r ∷ []))
     ∷ []
 
 -- written_177: the kernel
@@ -622,36 +632,36 @@ written_177_on = record { rules = linux_6_18; machine = record { lowest_built = 
 -- written_177: its answers
 abbrev pub written_177 : List Step
 written_177 =
-    step 0 (Map 1052672 8192 rw 50 (negsuc 0) 0) (Ok (Returned 1052672)) (Some (plain 257 259 rw ∷ []))
-    ∷ step 0 (Map 1048576 16384 rw 50 (negsuc 0) 0) (Ok (Returned 1048576)) (Some (plain 256 260 rw ∷ []))
-    ∷ step 0 (Touch 259 Write) (Ok (Serves 256 260 rw false 0)) None
-    ∷ step 0 (Protect 1048576 16384 rw) (Ok (Returned 0)) (Some (plain 256 260 rw ∷ []))
-    ∷ step 0 (Map 1052672 8192 rw 50 (negsuc 0) 0) (Ok (Returned 1052672)) (Some (plain 256 260 rw ∷ []))
-    ∷ step 0 (Remap 1052672 8192 8192 3 1638400) (Ok (Returned 1638400)) (Some (plain 256 257 rw ∷ plain 259 260 rw ∷ plain 400 402 rw ∷ []))
-    ∷ step 0 (Touch 259 Write) (Ok (Serves 259 260 rw false 0)) None
-    ∷ step 0 (Protect 1060864 12288 rw) (Err 12) (Some (plain 256 257 rw ∷ plain 259 260 rw ∷ plain 400 402 rw ∷ []))
-    ∷ step 0 (Fork 1) (Ok (Returned 0)) None
-    ∷ step 1 (Remap 1638400 8192 8192 3 1052672) (Ok (Returned 1052672)) (Some (plain 256 257 rw ∷ plain 257 259 rw ∷ plain 259 260 rw ∷ []))
-    ∷ step 1 (Remap 1052672 4096 4096 3 1642496) (Ok (Returned 1642496)) (Some (plain 256 257 rw ∷ plain 258 259 rw ∷ plain 259 260 rw ∷ plain 401 402 rw ∷ []))
-    ∷ step 1 (Touch 258 Write) (Ok (Serves 258 259 rw false 0)) None
-    ∷ step 0 (Map 1052672 4096 rw 50 (negsuc 0) 0) (Ok (Returned 1052672)) (Some (plain 256 258 rw ∷ plain 259 260 rw ∷ plain 400 402 rw ∷ []))
-    ∷ step 0 (Map 1056768 8192 rw 131122 (negsuc 0) 0) (Ok (Returned 1056768)) (Some (plain 256 258 rw ∷ plain 258 260 rw ∷ plain 400 402 rw ∷ []))
-    ∷ step 0 (Touch 257 Write) (Ok (Serves 256 258 rw false 0)) None
-    ∷ step 0 (Remap 1642496 4096 4096 3 1052672) (Ok (Returned 1052672)) (Some (plain 256 257 rw ∷ plain 257 258 rw ∷ plain 258 260 rw ∷ plain 400 401 rw ∷ []))
-    ∷ step 0 (Map 1060864 8192 rw 50 (negsuc 0) 0) (Ok (Returned 1060864)) (Some (plain 256 257 rw ∷ plain 257 258 rw ∷ plain 258 259 rw ∷ plain 259 261 rw ∷ plain 400 401 rw ∷ []))
-    ∷ step 0 (Protect 1060864 16384 rw) (Err 12) (Some (plain 256 257 rw ∷ plain 257 258 rw ∷ plain 258 259 rw ∷ plain 259 261 rw ∷ plain 400 401 rw ∷ []))
-    ∷ step 1 (Map 1056768 12288 rw 50 (negsuc 0) 0) (Ok (Returned 1056768)) (Some (plain 256 257 rw ∷ plain 258 261 rw ∷ plain 401 402 rw ∷ []))
-    ∷ step 0 (Touch 257 Write) (Ok (Serves 257 258 rw false 0)) None
-    ∷ step 1 (Touch 256 Write) (Ok (Serves 256 257 rw false 0)) None
-    ∷ step 1 (Map 1052672 12288 rw 50 (negsuc 0) 0) (Ok (Returned 1052672)) (Some (plain 256 257 rw ∷ plain 257 261 rw ∷ plain 401 402 rw ∷ []))
-    ∷ step 0 (Protect 1052672 4096 rw) (Ok (Returned 0)) (Some (plain 256 257 rw ∷ plain 257 258 rw ∷ plain 258 259 rw ∷ plain 259 261 rw ∷ plain 400 401 rw ∷ []))
-    ∷ step 1 (Touch 401 Write) (Ok (Serves 401 402 rw false 0)) None
-    ∷ step 0 (Touch 400 Write) (Ok (Serves 400 401 rw false 0)) None
-    ∷ step 1 (Protect 1064960 8192 rw) (Err 12) (Some (plain 256 257 rw ∷ plain 257 261 rw ∷ plain 401 402 rw ∷ []))
-    ∷ step 0 (Map 1060864 4096 rw 50 (negsuc 0) 0) (Ok (Returned 1060864)) (Some (plain 256 257 rw ∷ plain 257 258 rw ∷ plain 258 259 rw ∷ plain 259 261 rw ∷ plain 400 401 rw ∷ []))
-    ∷ step 0 (Touch 260 Write) (Ok (Serves 259 261 rw false 0)) None
-    ∷ step 0 (Touch 257 Write) (Ok (Serves 257 258 rw false 0)) None
-    ∷ step 0 (Map 1052672 16384 rw 50 (negsuc 0) 0) (Ok (Returned 1052672)) (Some (plain 256 261 rw ∷ plain 400 401 rw ∷ []))
+    kernel_step 0 (Map 1052672 8192 rw 50 (negsuc 0) 0) (Ok (Returned 1052672)) (Some (plain 257 259 rw ∷ []))
+    ∷ kernel_step 0 (Map 1048576 16384 rw 50 (negsuc 0) 0) (Ok (Returned 1048576)) (Some (plain 256 260 rw ∷ []))
+    ∷ kernel_step 0 (Touch 259 Write) (Ok (Serves 256 260 rw false 0)) None
+    ∷ kernel_step 0 (Protect 1048576 16384 rw) (Ok (Returned 0)) (Some (plain 256 260 rw ∷ []))
+    ∷ kernel_step 0 (Map 1052672 8192 rw 50 (negsuc 0) 0) (Ok (Returned 1052672)) (Some (plain 256 260 rw ∷ []))
+    ∷ kernel_step 0 (Remap 1052672 8192 8192 3 1638400) (Ok (Returned 1638400)) (Some (plain 256 257 rw ∷ plain 259 260 rw ∷ plain 400 402 rw ∷ []))
+    ∷ kernel_step 0 (Touch 259 Write) (Ok (Serves 259 260 rw false 0)) None
+    ∷ kernel_step 0 (Protect 1060864 12288 rw) (Err 12) (Some (plain 256 257 rw ∷ plain 259 260 rw ∷ plain 400 402 rw ∷ []))
+    ∷ kernel_step 0 (Fork 1) (Ok (Returned 0)) None
+    ∷ kernel_step 1 (Remap 1638400 8192 8192 3 1052672) (Ok (Returned 1052672)) (Some (plain 256 257 rw ∷ plain 257 259 rw ∷ plain 259 260 rw ∷ []))
+    ∷ kernel_step 1 (Remap 1052672 4096 4096 3 1642496) (Ok (Returned 1642496)) (Some (plain 256 257 rw ∷ plain 258 259 rw ∷ plain 259 260 rw ∷ plain 401 402 rw ∷ []))
+    ∷ kernel_step 1 (Touch 258 Write) (Ok (Serves 258 259 rw false 0)) None
+    ∷ kernel_step 0 (Map 1052672 4096 rw 50 (negsuc 0) 0) (Ok (Returned 1052672)) (Some (plain 256 258 rw ∷ plain 259 260 rw ∷ plain 400 402 rw ∷ []))
+    ∷ kernel_step 0 (Map 1056768 8192 rw 131122 (negsuc 0) 0) (Ok (Returned 1056768)) (Some (plain 256 258 rw ∷ plain 258 260 rw ∷ plain 400 402 rw ∷ []))
+    ∷ kernel_step 0 (Touch 257 Write) (Ok (Serves 256 258 rw false 0)) None
+    ∷ kernel_step 0 (Remap 1642496 4096 4096 3 1052672) (Ok (Returned 1052672)) (Some (plain 256 257 rw ∷ plain 257 258 rw ∷ plain 258 260 rw ∷ plain 400 401 rw ∷ []))
+    ∷ kernel_step 0 (Map 1060864 8192 rw 50 (negsuc 0) 0) (Ok (Returned 1060864)) (Some (plain 256 257 rw ∷ plain 257 258 rw ∷ plain 258 259 rw ∷ plain 259 261 rw ∷ plain 400 401 rw ∷ []))
+    ∷ kernel_step 0 (Protect 1060864 16384 rw) (Err 12) (Some (plain 256 257 rw ∷ plain 257 258 rw ∷ plain 258 259 rw ∷ plain 259 261 rw ∷ plain 400 401 rw ∷ []))
+    ∷ kernel_step 1 (Map 1056768 12288 rw 50 (negsuc 0) 0) (Ok (Returned 1056768)) (Some (plain 256 257 rw ∷ plain 258 261 rw ∷ plain 401 402 rw ∷ []))
+    ∷ kernel_step 0 (Touch 257 Write) (Ok (Serves 257 258 rw false 0)) None
+    ∷ kernel_step 1 (Touch 256 Write) (Ok (Serves 256 257 rw false 0)) None
+    ∷ kernel_step 1 (Map 1052672 12288 rw 50 (negsuc 0) 0) (Ok (Returned 1052672)) (Some (plain 256 257 rw ∷ plain 257 261 rw ∷ plain 401 402 rw ∷ []))
+    ∷ kernel_step 0 (Protect 1052672 4096 rw) (Ok (Returned 0)) (Some (plain 256 257 rw ∷ plain 257 258 rw ∷ plain 258 259 rw ∷ plain 259 261 rw ∷ plain 400 401 rw ∷ []))
+    ∷ kernel_step 1 (Touch 401 Write) (Ok (Serves 401 402 rw false 0)) None
+    ∷ kernel_step 0 (Touch 400 Write) (Ok (Serves 400 401 rw false 0)) None
+    ∷ kernel_step 1 (Protect 1064960 8192 rw) (Err 12) (Some (plain 256 257 rw ∷ plain 257 261 rw ∷ plain 401 402 rw ∷ []))
+    ∷ kernel_step 0 (Map 1060864 4096 rw 50 (negsuc 0) 0) (Ok (Returned 1060864)) (Some (plain 256 257 rw ∷ plain 257 258 rw ∷ plain 258 259 rw ∷ plain 259 261 rw ∷ plain 400 401 rw ∷ []))
+    ∷ kernel_step 0 (Touch 260 Write) (Ok (Serves 259 261 rw false 0)) None
+    ∷ kernel_step 0 (Touch 257 Write) (Ok (Serves 257 258 rw false 0)) None
+    ∷ kernel_step 0 (Map 1052672 16384 rw 50 (negsuc 0) 0) (Ok (Returned 1052672)) (Some (plain 256 261 rw ∷ plain 400 401 rw ∷ []))
     ∷ []
 
 -- written_188: the kernel
@@ -661,36 +671,36 @@ written_188_on = record { rules = linux_6_18; machine = record { lowest_built = 
 -- written_188: its answers
 abbrev pub written_188 : List Step
 written_188 =
-    step 0 (Map 1056768 16384 r 50 (negsuc 0) 0) (Ok (Returned 1056768)) (Some (plain 258 262 r ∷ []))
-    ∷ step 0 (Map 1048576 4096 rw 50 (negsuc 0) 0) (Ok (Returned 1048576)) (Some (plain 256 257 rw ∷ plain 258 262 r ∷ []))
-    ∷ step 0 (Remap 1048576 4096 4096 7 1052672) (Ok (Returned 1052672)) (Some (plain 256 258 rw ∷ plain 258 262 r ∷ []))
-    ∷ step 0 (Remap 1048576 4096 4096 7 1605632) (Ok (Returned 1605632)) (Some (plain 256 258 rw ∷ plain 258 262 r ∷ plain 392 393 rw ∷ []))
-    ∷ step 0 (Protect 1060864 8192 r) (Ok (Returned 0)) (Some (plain 256 258 rw ∷ plain 258 262 r ∷ plain 392 393 rw ∷ []))
-    ∷ step 0 (Map 1052672 4096 rw 50 (negsuc 0) 0) (Ok (Returned 1052672)) (Some (plain 256 258 rw ∷ plain 258 262 r ∷ plain 392 393 rw ∷ []))
-    ∷ step 0 (Touch 392 Read) (Ok (Serves 392 393 rw false 0)) None
-    ∷ step 0 (Fork 1) (Ok (Returned 0)) None
-    ∷ step 0 (Protect 1064960 8192 rw) (Ok (Returned 0)) (Some (plain 256 258 rw ∷ plain 258 260 r ∷ plain 260 262 rw ∷ plain 392 393 rw ∷ []))
-    ∷ step 1 (Touch 257 Write) (Ok (Serves 256 258 rw false 0)) None
-    ∷ step 1 (Map 1056768 12288 r 50 (negsuc 0) 0) (Ok (Returned 1056768)) (Some (plain 256 258 rw ∷ plain 258 262 r ∷ plain 392 393 rw ∷ []))
-    ∷ step 0 (Fork 2) (Ok (Returned 0)) None
-    ∷ step 2 (Touch 261 Write) (Ok (Serves 260 262 rw false 0)) None
-    ∷ step 1 (Touch 256 Write) (Ok (Serves 256 258 rw false 0)) None
-    ∷ step 1 (Remap 1605632 4096 4096 3 1048576) (Ok (Returned 1048576)) (Some (plain 256 258 rw ∷ plain 258 262 r ∷ []))
-    ∷ step 0 (Touch 258 Write) (Ok (Signal AccErr)) None
-    ∷ step 0 (Map 1048576 8192 rw 50 (negsuc 0) 0) (Ok (Returned 1048576)) (Some (plain 256 258 rw ∷ plain 258 260 r ∷ plain 260 262 rw ∷ plain 392 393 rw ∷ []))
-    ∷ step 2 (Protect 1048576 12288 r) (Ok (Returned 0)) (Some (plain 256 260 r ∷ plain 260 262 rw ∷ plain 392 393 rw ∷ []))
-    ∷ step 2 (Protect 1064960 8192 r) (Ok (Returned 0)) (Some (plain 256 260 r ∷ plain 260 262 r ∷ plain 392 393 rw ∷ []))
-    ∷ step 2 (Map 1052672 8192 rw 50 (negsuc 0) 0) (Ok (Returned 1052672)) (Some (plain 256 257 r ∷ plain 257 259 rw ∷ plain 259 260 r ∷ plain 260 262 r ∷ plain 392 393 rw ∷ []))
-    ∷ step 0 (Fork 3) (Ok (Returned 0)) None
-    ∷ step 3 (Map 1052672 4096 rw 50 (negsuc 0) 0) (Ok (Returned 1052672)) (Some (plain 256 258 rw ∷ plain 258 260 r ∷ plain 260 262 rw ∷ plain 392 393 rw ∷ []))
-    ∷ step 0 (Touch 258 Write) (Ok (Signal AccErr)) None
-    ∷ step 0 (Protect 1048576 4096 r) (Ok (Returned 0)) (Some (plain 256 257 r ∷ plain 257 258 rw ∷ plain 258 260 r ∷ plain 260 262 rw ∷ plain 392 393 rw ∷ []))
-    ∷ step 0 (Map 1048576 16384 rw 50 (negsuc 0) 0) (Ok (Returned 1048576)) (Some (plain 256 262 rw ∷ plain 392 393 rw ∷ []))
-    ∷ step 3 (Touch 258 Write) (Ok (Signal AccErr)) None
-    ∷ step 1 (Touch 257 Write) (Ok (Serves 256 258 rw false 0)) None
-    ∷ step 1 (Map 1052672 16384 rw 50 (negsuc 0) 0) (Ok (Returned 1052672)) (Some (plain 256 261 rw ∷ plain 261 262 r ∷ []))
-    ∷ step 3 (Touch 260 Write) (Ok (Serves 260 262 rw false 0)) (Some (plain 256 258 rw ∷ plain 258 260 r ∷ plain 260 262 rw ∷ plain 392 393 rw ∷ []))
-    ∷ step 2 (Touch 392 Write) (Ok (Serves 392 393 rw false 0)) (Some (plain 256 257 r ∷ plain 257 259 rw ∷ plain 259 260 r ∷ plain 260 262 r ∷ plain 392 393 rw ∷ []))
+    kernel_step 0 (Map 1056768 16384 r 50 (negsuc 0) 0) (Ok (Returned 1056768)) (Some (plain 258 262 r ∷ []))
+    ∷ kernel_step 0 (Map 1048576 4096 rw 50 (negsuc 0) 0) (Ok (Returned 1048576)) (Some (plain 256 257 rw ∷ plain 258 262 r ∷ []))
+    ∷ kernel_step 0 (Remap 1048576 4096 4096 7 1052672) (Ok (Returned 1052672)) (Some (plain 256 258 rw ∷ plain 258 262 r ∷ []))
+    ∷ kernel_step 0 (Remap 1048576 4096 4096 7 1605632) (Ok (Returned 1605632)) (Some (plain 256 258 rw ∷ plain 258 262 r ∷ plain 392 393 rw ∷ []))
+    ∷ kernel_step 0 (Protect 1060864 8192 r) (Ok (Returned 0)) (Some (plain 256 258 rw ∷ plain 258 262 r ∷ plain 392 393 rw ∷ []))
+    ∷ kernel_step 0 (Map 1052672 4096 rw 50 (negsuc 0) 0) (Ok (Returned 1052672)) (Some (plain 256 258 rw ∷ plain 258 262 r ∷ plain 392 393 rw ∷ []))
+    ∷ kernel_step 0 (Touch 392 Read) (Ok (Serves 392 393 rw false 0)) None
+    ∷ kernel_step 0 (Fork 1) (Ok (Returned 0)) None
+    ∷ kernel_step 0 (Protect 1064960 8192 rw) (Ok (Returned 0)) (Some (plain 256 258 rw ∷ plain 258 260 r ∷ plain 260 262 rw ∷ plain 392 393 rw ∷ []))
+    ∷ kernel_step 1 (Touch 257 Write) (Ok (Serves 256 258 rw false 0)) None
+    ∷ kernel_step 1 (Map 1056768 12288 r 50 (negsuc 0) 0) (Ok (Returned 1056768)) (Some (plain 256 258 rw ∷ plain 258 262 r ∷ plain 392 393 rw ∷ []))
+    ∷ kernel_step 0 (Fork 2) (Ok (Returned 0)) None
+    ∷ kernel_step 2 (Touch 261 Write) (Ok (Serves 260 262 rw false 0)) None
+    ∷ kernel_step 1 (Touch 256 Write) (Ok (Serves 256 258 rw false 0)) None
+    ∷ kernel_step 1 (Remap 1605632 4096 4096 3 1048576) (Ok (Returned 1048576)) (Some (plain 256 258 rw ∷ plain 258 262 r ∷ []))
+    ∷ kernel_step 0 (Touch 258 Write) (Ok (Signal AccErr)) None
+    ∷ kernel_step 0 (Map 1048576 8192 rw 50 (negsuc 0) 0) (Ok (Returned 1048576)) (Some (plain 256 258 rw ∷ plain 258 260 r ∷ plain 260 262 rw ∷ plain 392 393 rw ∷ []))
+    ∷ kernel_step 2 (Protect 1048576 12288 r) (Ok (Returned 0)) (Some (plain 256 260 r ∷ plain 260 262 rw ∷ plain 392 393 rw ∷ []))
+    ∷ kernel_step 2 (Protect 1064960 8192 r) (Ok (Returned 0)) (Some (plain 256 260 r ∷ plain 260 262 r ∷ plain 392 393 rw ∷ []))
+    ∷ kernel_step 2 (Map 1052672 8192 rw 50 (negsuc 0) 0) (Ok (Returned 1052672)) (Some (plain 256 257 r ∷ plain 257 259 rw ∷ plain 259 260 r ∷ plain 260 262 r ∷ plain 392 393 rw ∷ []))
+    ∷ kernel_step 0 (Fork 3) (Ok (Returned 0)) None
+    ∷ kernel_step 3 (Map 1052672 4096 rw 50 (negsuc 0) 0) (Ok (Returned 1052672)) (Some (plain 256 258 rw ∷ plain 258 260 r ∷ plain 260 262 rw ∷ plain 392 393 rw ∷ []))
+    ∷ kernel_step 0 (Touch 258 Write) (Ok (Signal AccErr)) None
+    ∷ kernel_step 0 (Protect 1048576 4096 r) (Ok (Returned 0)) (Some (plain 256 257 r ∷ plain 257 258 rw ∷ plain 258 260 r ∷ plain 260 262 rw ∷ plain 392 393 rw ∷ []))
+    ∷ kernel_step 0 (Map 1048576 16384 rw 50 (negsuc 0) 0) (Ok (Returned 1048576)) (Some (plain 256 262 rw ∷ plain 392 393 rw ∷ []))
+    ∷ kernel_step 3 (Touch 258 Write) (Ok (Signal AccErr)) None
+    ∷ kernel_step 1 (Touch 257 Write) (Ok (Serves 256 258 rw false 0)) None
+    ∷ kernel_step 1 (Map 1052672 16384 rw 50 (negsuc 0) 0) (Ok (Returned 1052672)) (Some (plain 256 261 rw ∷ plain 261 262 r ∷ []))
+    ∷ kernel_step 3 (Touch 260 Write) (Ok (Serves 260 262 rw false 0)) (Some (plain 256 258 rw ∷ plain 258 260 r ∷ plain 260 262 rw ∷ plain 392 393 rw ∷ []))
+    ∷ kernel_step 2 (Touch 392 Write) (Ok (Serves 392 393 rw false 0)) (Some (plain 256 257 r ∷ plain 257 259 rw ∷ plain 259 260 r ∷ plain 260 262 r ∷ plain 392 393 rw ∷ []))
     ∷ []
 
 -- written_198: the kernel
@@ -700,36 +710,36 @@ written_198_on = record { rules = linux_6_18; machine = record { lowest_built = 
 -- written_198: its answers
 abbrev pub written_198 : List Step
 written_198 =
-    step 0 (Map 1060864 12288 rw 50 (negsuc 0) 0) (Ok (Returned 1060864)) (Some (plain 259 262 rw ∷ []))
-    ∷ step 0 (Map 1052672 4096 rw 50 (negsuc 0) 0) (Ok (Returned 1052672)) (Some (plain 257 258 rw ∷ plain 259 262 rw ∷ []))
-    ∷ step 0 (Touch 261 Write) (Ok (Serves 259 262 rw false 0)) None
-    ∷ step 0 (Touch 261 Write) (Ok (Serves 259 262 rw false 0)) None
-    ∷ step 0 (Remap 1048576 16384 16384 3 1056768) (Err 22) (Some (plain 257 258 rw ∷ plain 259 262 rw ∷ []))
-    ∷ step 0 (Map 1060864 12288 rw 32818 (negsuc 0) 0) (Ok (Returned 1060864)) (Some (plain 257 258 rw ∷ plain 259 262 rw ∷ []))
-    ∷ step 0 (Remap 1048576 12288 12288 3 1605632) (Err 14) (Some (plain 257 258 rw ∷ plain 259 262 rw ∷ []))
-    ∷ step 0 (Touch 257 Write) (Ok (Serves 257 258 rw false 0)) None
-    ∷ step 0 (Map 1056768 4096 rw 50 (negsuc 0) 0) (Ok (Returned 1056768)) (Some (plain 257 259 rw ∷ plain 259 262 rw ∷ []))
-    ∷ step 0 (Touch 257 Read) (Ok (Serves 257 259 rw false 0)) None
-    ∷ step 0 (Remap 1056768 4096 4096 7 1048576) (Ok (Returned 1048576)) (Some (plain 256 257 rw ∷ plain 257 259 rw ∷ plain 259 262 rw ∷ []))
-    ∷ step 0 (Touch 257 Write) (Ok (Serves 257 259 rw false 0)) None
-    ∷ step 0 (Map 1060864 4096 rw 131122 (negsuc 0) 0) (Ok (Returned 1060864)) (Some (plain 256 257 rw ∷ plain 257 259 rw ∷ plain 259 260 rw ∷ plain 260 262 rw ∷ []))
-    ∷ step 0 (Touch 261 Read) (Ok (Serves 260 262 rw false 0)) None
-    ∷ step 0 (Protect 1048576 8192 rw) (Ok (Returned 0)) (Some (plain 256 257 rw ∷ plain 257 259 rw ∷ plain 259 260 rw ∷ plain 260 262 rw ∷ []))
-    ∷ step 0 (Map 1060864 4096 rw 50 (negsuc 0) 0) (Ok (Returned 1060864)) (Some (plain 256 257 rw ∷ plain 257 260 rw ∷ plain 260 262 rw ∷ []))
-    ∷ step 0 (Touch 261 Read) (Ok (Serves 260 262 rw false 0)) None
-    ∷ step 0 (Touch 257 Read) (Ok (Serves 257 260 rw false 0)) None
-    ∷ step 0 (Touch 261 Read) (Ok (Serves 260 262 rw false 0)) None
-    ∷ step 0 (Remap 1052672 4096 4096 3 1605632) (Ok (Returned 1605632)) (Some (plain 256 257 rw ∷ plain 258 260 rw ∷ plain 260 262 rw ∷ plain 392 393 rw ∷ []))
-    ∷ step 0 (Remap 1609728 8192 8192 3 1052672) (Err 14) (Some (plain 256 257 rw ∷ plain 258 260 rw ∷ plain 260 262 rw ∷ plain 392 393 rw ∷ []))
-    ∷ step 0 (Remap 1605632 4096 4096 3 1052672) (Ok (Returned 1052672)) (Some (plain 256 257 rw ∷ plain 257 260 rw ∷ plain 260 262 rw ∷ []))
-    ∷ step 0 (Touch 256 Read) (Ok (Serves 256 257 rw false 0)) None
-    ∷ step 0 (Protect 1064960 12288 rw) (Err 12) (Some (plain 256 257 rw ∷ plain 257 260 rw ∷ plain 260 262 rw ∷ []))
-    ∷ step 0 (Touch 258 Write) (Ok (Serves 257 260 rw false 0)) None
-    ∷ step 0 (Touch 257 Write) (Ok (Serves 257 260 rw false 0)) None
-    ∷ step 0 (Protect 1052672 20480 rw) (Ok (Returned 0)) (Some (plain 256 257 rw ∷ plain 257 260 rw ∷ plain 260 262 rw ∷ []))
-    ∷ step 0 (Protect 1060864 4096 rw) (Ok (Returned 0)) (Some (plain 256 257 rw ∷ plain 257 260 rw ∷ plain 260 262 rw ∷ []))
-    ∷ step 0 (Unmap 1048576 12288) (Ok (Returned 0)) (Some (plain 259 260 rw ∷ plain 260 262 rw ∷ []))
-    ∷ step 0 (Touch 259 Write) (Ok (Serves 259 260 rw false 0)) (Some (plain 259 260 rw ∷ plain 260 262 rw ∷ []))
+    kernel_step 0 (Map 1060864 12288 rw 50 (negsuc 0) 0) (Ok (Returned 1060864)) (Some (plain 259 262 rw ∷ []))
+    ∷ kernel_step 0 (Map 1052672 4096 rw 50 (negsuc 0) 0) (Ok (Returned 1052672)) (Some (plain 257 258 rw ∷ plain 259 262 rw ∷ []))
+    ∷ kernel_step 0 (Touch 261 Write) (Ok (Serves 259 262 rw false 0)) None
+    ∷ kernel_step 0 (Touch 261 Write) (Ok (Serves 259 262 rw false 0)) None
+    ∷ kernel_step 0 (Remap 1048576 16384 16384 3 1056768) (Err 22) (Some (plain 257 258 rw ∷ plain 259 262 rw ∷ []))
+    ∷ kernel_step 0 (Map 1060864 12288 rw 32818 (negsuc 0) 0) (Ok (Returned 1060864)) (Some (plain 257 258 rw ∷ plain 259 262 rw ∷ []))
+    ∷ kernel_step 0 (Remap 1048576 12288 12288 3 1605632) (Err 14) (Some (plain 257 258 rw ∷ plain 259 262 rw ∷ []))
+    ∷ kernel_step 0 (Touch 257 Write) (Ok (Serves 257 258 rw false 0)) None
+    ∷ kernel_step 0 (Map 1056768 4096 rw 50 (negsuc 0) 0) (Ok (Returned 1056768)) (Some (plain 257 259 rw ∷ plain 259 262 rw ∷ []))
+    ∷ kernel_step 0 (Touch 257 Read) (Ok (Serves 257 259 rw false 0)) None
+    ∷ kernel_step 0 (Remap 1056768 4096 4096 7 1048576) (Ok (Returned 1048576)) (Some (plain 256 257 rw ∷ plain 257 259 rw ∷ plain 259 262 rw ∷ []))
+    ∷ kernel_step 0 (Touch 257 Write) (Ok (Serves 257 259 rw false 0)) None
+    ∷ kernel_step 0 (Map 1060864 4096 rw 131122 (negsuc 0) 0) (Ok (Returned 1060864)) (Some (plain 256 257 rw ∷ plain 257 259 rw ∷ plain 259 260 rw ∷ plain 260 262 rw ∷ []))
+    ∷ kernel_step 0 (Touch 261 Read) (Ok (Serves 260 262 rw false 0)) None
+    ∷ kernel_step 0 (Protect 1048576 8192 rw) (Ok (Returned 0)) (Some (plain 256 257 rw ∷ plain 257 259 rw ∷ plain 259 260 rw ∷ plain 260 262 rw ∷ []))
+    ∷ kernel_step 0 (Map 1060864 4096 rw 50 (negsuc 0) 0) (Ok (Returned 1060864)) (Some (plain 256 257 rw ∷ plain 257 260 rw ∷ plain 260 262 rw ∷ []))
+    ∷ kernel_step 0 (Touch 261 Read) (Ok (Serves 260 262 rw false 0)) None
+    ∷ kernel_step 0 (Touch 257 Read) (Ok (Serves 257 260 rw false 0)) None
+    ∷ kernel_step 0 (Touch 261 Read) (Ok (Serves 260 262 rw false 0)) None
+    ∷ kernel_step 0 (Remap 1052672 4096 4096 3 1605632) (Ok (Returned 1605632)) (Some (plain 256 257 rw ∷ plain 258 260 rw ∷ plain 260 262 rw ∷ plain 392 393 rw ∷ []))
+    ∷ kernel_step 0 (Remap 1609728 8192 8192 3 1052672) (Err 14) (Some (plain 256 257 rw ∷ plain 258 260 rw ∷ plain 260 262 rw ∷ plain 392 393 rw ∷ []))
+    ∷ kernel_step 0 (Remap 1605632 4096 4096 3 1052672) (Ok (Returned 1052672)) (Some (plain 256 257 rw ∷ plain 257 260 rw ∷ plain 260 262 rw ∷ []))
+    ∷ kernel_step 0 (Touch 256 Read) (Ok (Serves 256 257 rw false 0)) None
+    ∷ kernel_step 0 (Protect 1064960 12288 rw) (Err 12) (Some (plain 256 257 rw ∷ plain 257 260 rw ∷ plain 260 262 rw ∷ []))
+    ∷ kernel_step 0 (Touch 258 Write) (Ok (Serves 257 260 rw false 0)) None
+    ∷ kernel_step 0 (Touch 257 Write) (Ok (Serves 257 260 rw false 0)) None
+    ∷ kernel_step 0 (Protect 1052672 20480 rw) (Ok (Returned 0)) (Some (plain 256 257 rw ∷ plain 257 260 rw ∷ plain 260 262 rw ∷ []))
+    ∷ kernel_step 0 (Protect 1060864 4096 rw) (Ok (Returned 0)) (Some (plain 256 257 rw ∷ plain 257 260 rw ∷ plain 260 262 rw ∷ []))
+    ∷ kernel_step 0 (Unmap 1048576 12288) (Ok (Returned 0)) (Some (plain 259 260 rw ∷ plain 260 262 rw ∷ []))
+    ∷ kernel_step 0 (Touch 259 Write) (Ok (Serves 259 260 rw false 0)) (Some (plain 259 260 rw ∷ plain 260 262 rw ∷ []))
     ∷ []
 
 -- hard_208: the kernel
@@ -739,36 +749,36 @@ hard_208_on = record { rules = linux_6_18; machine = record { lowest_built = 16;
 -- hard_208: its answers
 abbrev pub hard_208 : List Step
 hard_208 =
-    step 0 (Map 1085440 12288 r 16434 (negsuc 0) 0) (Ok (Returned 1085440)) (Some (plain 265 268 r ∷ []))
-    ∷ step 0 (Map 1073152 16384 rw 1048609 (negsuc 0) 0) (Err 17) (Some (plain 265 268 r ∷ []))
-    ∷ step 0 (Map 0 4194304 r 131361 (negsuc 0) 0) (Err 22) (Some (plain 265 268 r ∷ []))
-    ∷ step 0 (Touch 265 Write) (Ok (Signal AccErr)) None
-    ∷ step 0 (Protect 1114112 16384 rw) (Err 12) (Some (plain 265 268 r ∷ []))
-    ∷ step 0 (Touch 265 Write) (Ok (Signal AccErr)) None
-    ∷ step 0 (Map 1097728 8192 rw 50 (negsuc 0) 0) (Ok (Returned 1097728)) (Some (plain 265 268 r ∷ plain 268 270 rw ∷ []))
-    ∷ step 0 (Protect 1097728 8192 rw) (Ok (Returned 0)) (Some (plain 265 268 r ∷ plain 268 270 rw ∷ []))
-    ∷ step 0 (Remap 1085440 12288 12288 5 0) (Ok (Returned 140737354121216)) (Some (plain 265 268 r ∷ plain 268 270 rw ∷ plain 34359705596 34359705599 r ∷ []))
-    ∷ step 0 (Touch 265 Write) (Ok (Signal AccErr)) None
-    ∷ step 0 (Map 1122304 16384 r 50 (negsuc 0) 0) (Ok (Returned 1122304)) (Some (plain 265 268 r ∷ plain 268 270 rw ∷ plain 274 278 r ∷ plain 34359705596 34359705599 r ∷ []))
-    ∷ step 0 (Protect 1085440 53248 rw) (Err 12) (Some (plain 265 268 rw ∷ plain 268 270 rw ∷ plain 274 278 r ∷ plain 34359705596 34359705599 r ∷ []))
-    ∷ step 0 (Protect 1101824 16384 r) (Err 12) (Some (plain 265 268 rw ∷ plain 268 269 rw ∷ plain 269 270 r ∷ plain 274 278 r ∷ plain 34359705596 34359705599 r ∷ []))
-    ∷ step 0 (Protect 1101824 4096 r) (Ok (Returned 0)) (Some (plain 265 268 rw ∷ plain 268 269 rw ∷ plain 269 270 r ∷ plain 274 278 r ∷ plain 34359705596 34359705599 r ∷ []))
-    ∷ step 0 (Map 1097728 12288 r 50 (negsuc 0) 0) (Ok (Returned 1097728)) (Some (plain 265 268 rw ∷ plain 268 271 r ∷ plain 274 278 r ∷ plain 34359705596 34359705599 r ∷ []))
-    ∷ step 0 (Protect 1097728 4096 r) (Ok (Returned 0)) (Some (plain 265 268 rw ∷ plain 268 271 r ∷ plain 274 278 r ∷ plain 34359705596 34359705599 r ∷ []))
-    ∷ step 0 (Remap 1126400 12288 12288 5 0) (Ok (Returned 140737354108928)) (Some (plain 265 268 rw ∷ plain 268 271 r ∷ plain 274 278 r ∷ plain 34359705593 34359705596 r ∷ plain 34359705596 34359705599 r ∷ []))
-    ∷ step 0 (Map 0 68719476736 r 34 (negsuc 0) 0) (Ok (Returned 140668632563712)) (Some (plain 265 268 rw ∷ plain 268 271 r ∷ plain 274 278 r ∷ plain 34342927872 34359705088 r ∷ plain 34359705593 34359705596 r ∷ plain 34359705596 34359705599 r ∷ []))
-    ∷ step 0 (Protect 1134592 4096 r) (Ok (Returned 0)) (Some (plain 265 268 rw ∷ plain 268 271 r ∷ plain 274 278 r ∷ plain 34342927872 34359705088 r ∷ plain 34359705593 34359705596 r ∷ plain 34359705596 34359705599 r ∷ []))
-    ∷ step 0 (Fork 1) (Ok (Returned 0)) None
-    ∷ step 0 (Unmap 1085440 12288) (Ok (Returned 0)) (Some (plain 268 271 r ∷ plain 274 278 r ∷ plain 34342927872 34359705088 r ∷ plain 34359705593 34359705596 r ∷ plain 34359705596 34359705599 r ∷ []))
-    ∷ step 0 (Protect 1097728 12288 r) (Ok (Returned 0)) (Some (plain 268 271 r ∷ plain 274 278 r ∷ plain 34342927872 34359705088 r ∷ plain 34359705593 34359705596 r ∷ plain 34359705596 34359705599 r ∷ []))
-    ∷ step 1 (Touch 274 Read) (Ok (Serves 274 278 r false 0)) None
-    ∷ step 1 (Remap 1122304 16384 16384 7 1138688) (Ok (Returned 1138688)) (Some (plain 265 268 rw ∷ plain 268 271 r ∷ plain 274 282 r ∷ plain 34342927872 34359705088 r ∷ plain 34359705593 34359705596 r ∷ plain 34359705596 34359705599 r ∷ []))
-    ∷ step 0 (Unmap 1122304 16384) (Ok (Returned 0)) (Some (plain 268 271 r ∷ plain 34342927872 34359705088 r ∷ plain 34359705593 34359705596 r ∷ plain 34359705596 34359705599 r ∷ []))
-    ∷ step 0 (Remap 1097728 0 12288 1 0) (Err 22) (Some (plain 268 271 r ∷ plain 34342927872 34359705088 r ∷ plain 34359705593 34359705596 r ∷ plain 34359705596 34359705599 r ∷ []))
-    ∷ step 1 (Remap 1089536 12288 12288 5 0) (Err 14) (Some (plain 265 268 rw ∷ plain 268 271 r ∷ plain 274 282 r ∷ plain 34342927872 34359705088 r ∷ plain 34359705593 34359705596 r ∷ plain 34359705596 34359705599 r ∷ []))
-    ∷ step 1 (Map 140737354133504 8192 r 50 (negsuc 0) 0) (Ok (Returned 140737354133504)) (Some (plain 265 268 rw ∷ plain 268 271 r ∷ plain 274 282 r ∷ plain 34342927872 34359705088 r ∷ plain 34359705593 34359705596 r ∷ plain 34359705596 34359705599 r ∷ plain 34359705599 34359705601 r ∷ []))
-    ∷ step 0 (Touch 268 Exec) (Ok (Signal AccErr)) (Some (plain 268 271 r ∷ plain 34342927872 34359705088 r ∷ plain 34359705593 34359705596 r ∷ plain 34359705596 34359705599 r ∷ []))
-    ∷ step 1 (Unmap 1077248 20480) (Ok (Returned 0)) (Some (plain 268 271 r ∷ plain 274 282 r ∷ plain 34342927872 34359705088 r ∷ plain 34359705593 34359705596 r ∷ plain 34359705596 34359705599 r ∷ plain 34359705599 34359705601 r ∷ []))
+    kernel_step 0 (Map 1085440 12288 r 16434 (negsuc 0) 0) (Ok (Returned 1085440)) (Some (plain 265 268 r ∷ []))
+    ∷ kernel_step 0 (Map 1073152 16384 rw 1048609 (negsuc 0) 0) (Err 17) (Some (plain 265 268 r ∷ []))
+    ∷ kernel_step 0 (Map 0 4194304 r 131361 (negsuc 0) 0) (Err 22) (Some (plain 265 268 r ∷ []))
+    ∷ kernel_step 0 (Touch 265 Write) (Ok (Signal AccErr)) None
+    ∷ kernel_step 0 (Protect 1114112 16384 rw) (Err 12) (Some (plain 265 268 r ∷ []))
+    ∷ kernel_step 0 (Touch 265 Write) (Ok (Signal AccErr)) None
+    ∷ kernel_step 0 (Map 1097728 8192 rw 50 (negsuc 0) 0) (Ok (Returned 1097728)) (Some (plain 265 268 r ∷ plain 268 270 rw ∷ []))
+    ∷ kernel_step 0 (Protect 1097728 8192 rw) (Ok (Returned 0)) (Some (plain 265 268 r ∷ plain 268 270 rw ∷ []))
+    ∷ kernel_step 0 (Remap 1085440 12288 12288 5 0) (Ok (Returned 140737354121216)) (Some (plain 265 268 r ∷ plain 268 270 rw ∷ plain 34359705596 34359705599 r ∷ []))
+    ∷ kernel_step 0 (Touch 265 Write) (Ok (Signal AccErr)) None
+    ∷ kernel_step 0 (Map 1122304 16384 r 50 (negsuc 0) 0) (Ok (Returned 1122304)) (Some (plain 265 268 r ∷ plain 268 270 rw ∷ plain 274 278 r ∷ plain 34359705596 34359705599 r ∷ []))
+    ∷ kernel_step 0 (Protect 1085440 53248 rw) (Err 12) (Some (plain 265 268 rw ∷ plain 268 270 rw ∷ plain 274 278 r ∷ plain 34359705596 34359705599 r ∷ []))
+    ∷ kernel_step 0 (Protect 1101824 16384 r) (Err 12) (Some (plain 265 268 rw ∷ plain 268 269 rw ∷ plain 269 270 r ∷ plain 274 278 r ∷ plain 34359705596 34359705599 r ∷ []))
+    ∷ kernel_step 0 (Protect 1101824 4096 r) (Ok (Returned 0)) (Some (plain 265 268 rw ∷ plain 268 269 rw ∷ plain 269 270 r ∷ plain 274 278 r ∷ plain 34359705596 34359705599 r ∷ []))
+    ∷ kernel_step 0 (Map 1097728 12288 r 50 (negsuc 0) 0) (Ok (Returned 1097728)) (Some (plain 265 268 rw ∷ plain 268 271 r ∷ plain 274 278 r ∷ plain 34359705596 34359705599 r ∷ []))
+    ∷ kernel_step 0 (Protect 1097728 4096 r) (Ok (Returned 0)) (Some (plain 265 268 rw ∷ plain 268 271 r ∷ plain 274 278 r ∷ plain 34359705596 34359705599 r ∷ []))
+    ∷ kernel_step 0 (Remap 1126400 12288 12288 5 0) (Ok (Returned 140737354108928)) (Some (plain 265 268 rw ∷ plain 268 271 r ∷ plain 274 278 r ∷ plain 34359705593 34359705596 r ∷ plain 34359705596 34359705599 r ∷ []))
+    ∷ kernel_step 0 (Map 0 68719476736 r 34 (negsuc 0) 0) (Ok (Returned 140668632563712)) (Some (plain 265 268 rw ∷ plain 268 271 r ∷ plain 274 278 r ∷ plain 34342927872 34359705088 r ∷ plain 34359705593 34359705596 r ∷ plain 34359705596 34359705599 r ∷ []))
+    ∷ kernel_step 0 (Protect 1134592 4096 r) (Ok (Returned 0)) (Some (plain 265 268 rw ∷ plain 268 271 r ∷ plain 274 278 r ∷ plain 34342927872 34359705088 r ∷ plain 34359705593 34359705596 r ∷ plain 34359705596 34359705599 r ∷ []))
+    ∷ kernel_step 0 (Fork 1) (Ok (Returned 0)) None
+    ∷ kernel_step 0 (Unmap 1085440 12288) (Ok (Returned 0)) (Some (plain 268 271 r ∷ plain 274 278 r ∷ plain 34342927872 34359705088 r ∷ plain 34359705593 34359705596 r ∷ plain 34359705596 34359705599 r ∷ []))
+    ∷ kernel_step 0 (Protect 1097728 12288 r) (Ok (Returned 0)) (Some (plain 268 271 r ∷ plain 274 278 r ∷ plain 34342927872 34359705088 r ∷ plain 34359705593 34359705596 r ∷ plain 34359705596 34359705599 r ∷ []))
+    ∷ kernel_step 1 (Touch 274 Read) (Ok (Serves 274 278 r false 0)) None
+    ∷ kernel_step 1 (Remap 1122304 16384 16384 7 1138688) (Ok (Returned 1138688)) (Some (plain 265 268 rw ∷ plain 268 271 r ∷ plain 274 282 r ∷ plain 34342927872 34359705088 r ∷ plain 34359705593 34359705596 r ∷ plain 34359705596 34359705599 r ∷ []))
+    ∷ kernel_step 0 (Unmap 1122304 16384) (Ok (Returned 0)) (Some (plain 268 271 r ∷ plain 34342927872 34359705088 r ∷ plain 34359705593 34359705596 r ∷ plain 34359705596 34359705599 r ∷ []))
+    ∷ kernel_step 0 (Remap 1097728 0 12288 1 0) (Err 22) (Some (plain 268 271 r ∷ plain 34342927872 34359705088 r ∷ plain 34359705593 34359705596 r ∷ plain 34359705596 34359705599 r ∷ []))
+    ∷ kernel_step 1 (Remap 1089536 12288 12288 5 0) (Err 14) (Some (plain 265 268 rw ∷ plain 268 271 r ∷ plain 274 282 r ∷ plain 34342927872 34359705088 r ∷ plain 34359705593 34359705596 r ∷ plain 34359705596 34359705599 r ∷ []))
+    ∷ kernel_step 1 (Map 140737354133504 8192 r 50 (negsuc 0) 0) (Ok (Returned 140737354133504)) (Some (plain 265 268 rw ∷ plain 268 271 r ∷ plain 274 282 r ∷ plain 34342927872 34359705088 r ∷ plain 34359705593 34359705596 r ∷ plain 34359705596 34359705599 r ∷ plain 34359705599 34359705601 r ∷ []))
+    ∷ kernel_step 0 (Touch 268 Exec) (Ok (Signal AccErr)) (Some (plain 268 271 r ∷ plain 34342927872 34359705088 r ∷ plain 34359705593 34359705596 r ∷ plain 34359705596 34359705599 r ∷ []))
+    ∷ kernel_step 1 (Unmap 1077248 20480) (Ok (Returned 0)) (Some (plain 268 271 r ∷ plain 274 282 r ∷ plain 34342927872 34359705088 r ∷ plain 34359705593 34359705596 r ∷ plain 34359705596 34359705599 r ∷ plain 34359705599 34359705601 r ∷ []))
     ∷ []
 
 -- written_230: the kernel
@@ -778,36 +788,36 @@ written_230_on = record { rules = linux_6_18; machine = record { lowest_built = 
 -- written_230: its answers
 abbrev pub written_230 : List Step
 written_230 =
-    step 0 (Map 1048576 4096 r 306 (negsuc 0) 0) (Ok (Returned 1048576)) (Some (plain 256 257 r ∷ []))
-    ∷ step 0 (Map 1064960 12288 r 306 (negsuc 0) 0) (Ok (Returned 1064960)) (Some (plain 256 257 r ∷ plain 260 263 r ∷ []))
-    ∷ step 0 (Remap 1073152 4096 4096 3 1056768) (Ok (Returned 1056768)) (Some (plain 256 257 r ∷ plain 258 259 r ∷ plain 260 262 r ∷ []))
-    ∷ step 0 (Map 1048576 4096 r 306 (negsuc 0) 0) (Ok (Returned 1048576)) (Some (plain 256 257 r ∷ plain 258 259 r ∷ plain 260 262 r ∷ []))
-    ∷ step 0 (Protect 1056768 4096 r) (Ok (Returned 0)) (Some (plain 256 257 r ∷ plain 258 259 r ∷ plain 260 262 r ∷ []))
-    ∷ step 0 (Touch 259 Read) (Ok (Serves 259 262 r false 0)) None
-    ∷ step 0 (Remap 1056768 4096 4096 3 1073152) (Ok (Returned 1073152)) (Some (plain 256 257 r ∷ plain 259 263 r ∷ []))
-    ∷ step 0 (Map 1060864 8192 rw 50 (negsuc 0) 0) (Ok (Returned 1060864)) (Some (plain 256 257 r ∷ plain 259 261 rw ∷ plain 261 263 r ∷ []))
-    ∷ step 0 (Map 1056768 8192 r 50 (negsuc 0) 0) (Ok (Returned 1056768)) (Some (plain 256 257 r ∷ plain 258 260 r ∷ plain 260 261 rw ∷ plain 261 263 r ∷ []))
-    ∷ step 0 (Protect 1064960 16384 rw) (Err 12) (Some (plain 256 257 r ∷ plain 258 260 r ∷ plain 260 261 rw ∷ plain 261 263 rw ∷ []))
-    ∷ step 0 (Fork 1) (Ok (Returned 0)) None
-    ∷ step 0 (Protect 1048576 12288 rw) (Err 12) (Some (plain 256 257 rw ∷ plain 258 260 r ∷ plain 260 261 rw ∷ plain 261 263 rw ∷ []))
-    ∷ step 0 (Protect 1069056 8192 r) (Ok (Returned 0)) (Some (plain 256 257 rw ∷ plain 258 260 r ∷ plain 260 261 rw ∷ plain 261 263 r ∷ []))
-    ∷ step 0 (Protect 1048576 16384 r) (Err 12) (Some (plain 256 257 r ∷ plain 258 260 r ∷ plain 260 261 rw ∷ plain 261 263 r ∷ []))
-    ∷ step 1 (Protect 1048576 8192 r) (Err 12) (Some (plain 256 257 r ∷ plain 258 260 r ∷ plain 260 261 rw ∷ plain 261 263 rw ∷ []))
-    ∷ step 1 (Touch 255 Read) (Ok (Serves 255 257 r false 0)) None
-    ∷ step 0 (Touch 260 Read) (Ok (Serves 260 261 rw false 0)) None
-    ∷ step 1 (Touch 261 Write) (Ok (Serves 261 263 rw false 0)) None
-    ∷ step 1 (Touch 259 Write) (Ok (Signal AccErr)) None
-    ∷ step 0 (Touch 261 Write) (Ok (Signal AccErr)) None
-    ∷ step 1 (Touch 258 Read) (Ok (Serves 258 260 r false 0)) None
-    ∷ step 0 (Protect 1064960 16384 rw) (Err 12) (Some (plain 256 257 r ∷ plain 258 260 r ∷ plain 260 261 rw ∷ plain 261 263 rw ∷ []))
-    ∷ step 0 (Remap 1048576 12288 12288 3 1605632) (Ok (Returned 1605632)) (Some (plain 259 260 r ∷ plain 260 261 rw ∷ plain 261 263 rw ∷ plain 392 393 r ∷ plain 394 395 r ∷ []))
-    ∷ step 1 (Protect 1048576 12288 rw) (Err 12) (Some (plain 255 256 r ∷ plain 256 257 rw ∷ plain 258 260 r ∷ plain 260 261 rw ∷ plain 261 263 rw ∷ []))
-    ∷ step 0 (Protect 1056768 4096 r) (Err 12) (Some (plain 259 260 r ∷ plain 260 261 rw ∷ plain 261 263 rw ∷ plain 392 393 r ∷ plain 394 395 r ∷ []))
-    ∷ step 1 (Unmap 1048576 4096) (Ok (Returned 0)) (Some (plain 255 256 r ∷ plain 258 260 r ∷ plain 260 261 rw ∷ plain 261 263 rw ∷ []))
-    ∷ step 0 (Fork 2) (Ok (Returned 0)) (Some (plain 259 260 r ∷ plain 260 261 rw ∷ plain 261 263 rw ∷ plain 392 393 r ∷ plain 394 395 r ∷ []))
-    ∷ step 2 (Remap 1605632 12288 12288 3 1048576) (Ok (Returned 1048576)) (Some (plain 256 257 r ∷ plain 258 260 r ∷ plain 260 261 rw ∷ plain 261 263 rw ∷ []))
-    ∷ step 1 (Protect 1064960 16384 rw) (Err 12) (Some (plain 255 256 r ∷ plain 258 260 r ∷ plain 260 261 rw ∷ plain 261 263 rw ∷ []))
-    ∷ step 1 (Map 1056768 8192 r 50 (negsuc 0) 0) (Ok (Returned 1056768)) (Some (plain 255 256 r ∷ plain 258 260 r ∷ plain 260 261 rw ∷ plain 261 263 rw ∷ []))
+    kernel_step 0 (Map 1048576 4096 r 306 (negsuc 0) 0) (Ok (Returned 1048576)) (Some (plain 256 257 r ∷ []))
+    ∷ kernel_step 0 (Map 1064960 12288 r 306 (negsuc 0) 0) (Ok (Returned 1064960)) (Some (plain 256 257 r ∷ plain 260 263 r ∷ []))
+    ∷ kernel_step 0 (Remap 1073152 4096 4096 3 1056768) (Ok (Returned 1056768)) (Some (plain 256 257 r ∷ plain 258 259 r ∷ plain 260 262 r ∷ []))
+    ∷ kernel_step 0 (Map 1048576 4096 r 306 (negsuc 0) 0) (Ok (Returned 1048576)) (Some (plain 256 257 r ∷ plain 258 259 r ∷ plain 260 262 r ∷ []))
+    ∷ kernel_step 0 (Protect 1056768 4096 r) (Ok (Returned 0)) (Some (plain 256 257 r ∷ plain 258 259 r ∷ plain 260 262 r ∷ []))
+    ∷ kernel_step 0 (Touch 259 Read) (Ok (Serves 259 262 r false 0)) None
+    ∷ kernel_step 0 (Remap 1056768 4096 4096 3 1073152) (Ok (Returned 1073152)) (Some (plain 256 257 r ∷ plain 259 263 r ∷ []))
+    ∷ kernel_step 0 (Map 1060864 8192 rw 50 (negsuc 0) 0) (Ok (Returned 1060864)) (Some (plain 256 257 r ∷ plain 259 261 rw ∷ plain 261 263 r ∷ []))
+    ∷ kernel_step 0 (Map 1056768 8192 r 50 (negsuc 0) 0) (Ok (Returned 1056768)) (Some (plain 256 257 r ∷ plain 258 260 r ∷ plain 260 261 rw ∷ plain 261 263 r ∷ []))
+    ∷ kernel_step 0 (Protect 1064960 16384 rw) (Err 12) (Some (plain 256 257 r ∷ plain 258 260 r ∷ plain 260 261 rw ∷ plain 261 263 rw ∷ []))
+    ∷ kernel_step 0 (Fork 1) (Ok (Returned 0)) None
+    ∷ kernel_step 0 (Protect 1048576 12288 rw) (Err 12) (Some (plain 256 257 rw ∷ plain 258 260 r ∷ plain 260 261 rw ∷ plain 261 263 rw ∷ []))
+    ∷ kernel_step 0 (Protect 1069056 8192 r) (Ok (Returned 0)) (Some (plain 256 257 rw ∷ plain 258 260 r ∷ plain 260 261 rw ∷ plain 261 263 r ∷ []))
+    ∷ kernel_step 0 (Protect 1048576 16384 r) (Err 12) (Some (plain 256 257 r ∷ plain 258 260 r ∷ plain 260 261 rw ∷ plain 261 263 r ∷ []))
+    ∷ kernel_step 1 (Protect 1048576 8192 r) (Err 12) (Some (plain 256 257 r ∷ plain 258 260 r ∷ plain 260 261 rw ∷ plain 261 263 rw ∷ []))
+    ∷ kernel_step 1 (Touch 255 Read) (Ok (Serves 255 257 r false 0)) None
+    ∷ kernel_step 0 (Touch 260 Read) (Ok (Serves 260 261 rw false 0)) None
+    ∷ kernel_step 1 (Touch 261 Write) (Ok (Serves 261 263 rw false 0)) None
+    ∷ kernel_step 1 (Touch 259 Write) (Ok (Signal AccErr)) None
+    ∷ kernel_step 0 (Touch 261 Write) (Ok (Signal AccErr)) None
+    ∷ kernel_step 1 (Touch 258 Read) (Ok (Serves 258 260 r false 0)) None
+    ∷ kernel_step 0 (Protect 1064960 16384 rw) (Err 12) (Some (plain 256 257 r ∷ plain 258 260 r ∷ plain 260 261 rw ∷ plain 261 263 rw ∷ []))
+    ∷ kernel_step 0 (Remap 1048576 12288 12288 3 1605632) (Ok (Returned 1605632)) (Some (plain 259 260 r ∷ plain 260 261 rw ∷ plain 261 263 rw ∷ plain 392 393 r ∷ plain 394 395 r ∷ []))
+    ∷ kernel_step 1 (Protect 1048576 12288 rw) (Err 12) (Some (plain 255 256 r ∷ plain 256 257 rw ∷ plain 258 260 r ∷ plain 260 261 rw ∷ plain 261 263 rw ∷ []))
+    ∷ kernel_step 0 (Protect 1056768 4096 r) (Err 12) (Some (plain 259 260 r ∷ plain 260 261 rw ∷ plain 261 263 rw ∷ plain 392 393 r ∷ plain 394 395 r ∷ []))
+    ∷ kernel_step 1 (Unmap 1048576 4096) (Ok (Returned 0)) (Some (plain 255 256 r ∷ plain 258 260 r ∷ plain 260 261 rw ∷ plain 261 263 rw ∷ []))
+    ∷ kernel_step 0 (Fork 2) (Ok (Returned 0)) (Some (plain 259 260 r ∷ plain 260 261 rw ∷ plain 261 263 rw ∷ plain 392 393 r ∷ plain 394 395 r ∷ []))
+    ∷ kernel_step 2 (Remap 1605632 12288 12288 3 1048576) (Ok (Returned 1048576)) (Some (plain 256 257 r ∷ plain 258 260 r ∷ plain 260 261 rw ∷ plain 261 263 rw ∷ []))
+    ∷ kernel_step 1 (Protect 1064960 16384 rw) (Err 12) (Some (plain 255 256 r ∷ plain 258 260 r ∷ plain 260 261 rw ∷ plain 261 263 rw ∷ []))
+    ∷ kernel_step 1 (Map 1056768 8192 r 50 (negsuc 0) 0) (Ok (Returned 1056768)) (Some (plain 255 256 r ∷ plain 258 260 r ∷ plain 260 261 rw ∷ plain 261 263 rw ∷ []))
     ∷ []
 
 -- hard_275: the kernel
@@ -817,36 +827,36 @@ hard_275_on = record { rules = linux_6_18; machine = record { lowest_built = 16;
 -- hard_275: its answers
 abbrev pub hard_275 : List Step
 hard_275 =
-    step 0 (Map 0 4194304 w 34 (negsuc 0) 0) (Ok (Returned 140737347846144)) (Some (plain 34359704064 34359705088 w ∷ []))
-    ∷ step 0 (Map 0 34359738368 rw 34 (negsuc 0) 0) (Err 12) (Some (plain 34359704064 34359705088 w ∷ []))
-    ∷ step 0 (Unmap 140737347858432 4096) (Ok (Returned 0)) (Some (plain 34359704064 34359704067 w ∷ plain 34359704068 34359705088 w ∷ []))
-    ∷ step 0 (Touch 34359704064 Read) (Ok (Serves 34359704064 34359704067 w false 0)) None
-    ∷ step 0 (Remap 140737347862528 4177920 4177920 3 1097728) (Ok (Returned 1097728)) (Some (plain 268 1288 w ∷ plain 34359704064 34359704067 w ∷ []))
-    ∷ step 0 (Protect 1097728 4096 none) (Ok (Returned 0)) (Some (plain 268 269 none ∷ plain 269 1288 w ∷ plain 34359704064 34359704067 w ∷ []))
-    ∷ step 0 (Touch 276 Exec) (Ok (Signal AccErr)) None
-    ∷ step 0 (Map 140737347837952 8192 rw 50 (negsuc 0) 0) (Ok (Returned 140737347837952)) (Some (plain 268 269 none ∷ plain 269 1288 w ∷ plain 34359704062 34359704064 rw ∷ plain 34359704064 34359704067 w ∷ []))
-    ∷ step 0 (Map 1081344 16384 none 289 (negsuc 0) 0) (Err 22) (Some (plain 268 269 none ∷ plain 269 1288 w ∷ plain 34359704062 34359704064 rw ∷ plain 34359704064 34359704067 w ∷ []))
-    ∷ step 0 (Map 140737347846144 4096 x 32818 (negsuc 0) 0) (Ok (Returned 140737347846144)) (Some (plain 268 269 none ∷ plain 269 1288 w ∷ plain 34359704062 34359704064 rw ∷ plain 34359704064 34359704065 x ∷ plain 34359704065 34359704067 w ∷ []))
-    ∷ step 0 (Remap 1101824 4173824 4186112 1 0) (Ok (Returned 1101824)) (Some (plain 268 269 none ∷ plain 269 1291 w ∷ plain 34359704062 34359704064 rw ∷ plain 34359704064 34359704065 x ∷ plain 34359704065 34359704067 w ∷ []))
-    ∷ step 0 (Touch 274 Write) (Ok (Serves 269 1291 w false 0)) None
-    ∷ step 0 (Protect 1097728 8192 none) (Ok (Returned 0)) (Some (plain 268 269 none ∷ plain 269 270 none ∷ plain 270 1291 w ∷ plain 34359704062 34359704064 rw ∷ plain 34359704064 34359704065 x ∷ plain 34359704065 34359704067 w ∷ []))
-    ∷ step 0 (Touch 275 Exec) (Ok (Signal AccErr)) None
-    ∷ step 0 (Map 1089536 4096 r 16434 (negsuc 0) 0) (Ok (Returned 1089536)) (Some (plain 266 267 r ∷ plain 268 269 none ∷ plain 269 270 none ∷ plain 270 1291 w ∷ plain 34359704062 34359704064 rw ∷ plain 34359704064 34359704065 x ∷ plain 34359704065 34359704067 w ∷ []))
-    ∷ step 0 (Touch 270 Exec) (Ok (Signal AccErr)) None
-    ∷ step 0 (Protect 1101824 4096 rw) (Ok (Returned 0)) (Some (plain 266 267 r ∷ plain 268 269 none ∷ plain 269 270 rw ∷ plain 270 1291 w ∷ plain 34359704062 34359704064 rw ∷ plain 34359704064 34359704065 x ∷ plain 34359704065 34359704067 w ∷ []))
-    ∷ step 0 (Map 1093632 4096 rx 1064994 (negsuc 0) 0) (Ok (Returned 1093632)) (Some (plain 266 267 r ∷ plain 267 268 rx ∷ plain 268 269 none ∷ plain 269 270 rw ∷ plain 270 1291 w ∷ plain 34359704062 34359704064 rw ∷ plain 34359704064 34359704065 x ∷ plain 34359704065 34359704067 w ∷ []))
-    ∷ step 0 (Remap 1089536 8192 8192 7 1089536) (Err 22) (Some (plain 266 267 r ∷ plain 267 268 rx ∷ plain 268 269 none ∷ plain 269 270 rw ∷ plain 270 1291 w ∷ plain 34359704062 34359704064 rw ∷ plain 34359704064 34359704065 x ∷ plain 34359704065 34359704067 w ∷ []))
-    ∷ step 0 (Touch 267 Write) (Ok (Signal AccErr)) None
-    ∷ step 0 (Map 1060864 4096 w 1048610 (negsuc 0) 0) (Ok (Returned 1060864)) (Some (plain 259 260 w ∷ plain 266 267 r ∷ plain 267 268 rx ∷ plain 268 269 none ∷ plain 269 270 rw ∷ plain 270 1291 w ∷ plain 34359704062 34359704064 rw ∷ plain 34359704064 34359704065 x ∷ plain 34359704065 34359704067 w ∷ []))
-    ∷ step 0 (Touch 524 Write) (Ok (Serves 270 1291 w false 0)) None
-    ∷ step 0 (Touch 267 Read) (Ok (Serves 267 268 rx false 0)) None
-    ∷ step 0 (Touch 259 Exec) (Ok (Signal AccErr)) None
-    ∷ step 0 (Touch 268 Write) (Ok (Signal AccErr)) None
-    ∷ step 0 (Map 0 3145728 none 34 (negsuc 0) 0) (Ok (Returned 140737350987776)) (Some (plain 259 260 w ∷ plain 266 267 r ∷ plain 267 268 rx ∷ plain 268 269 none ∷ plain 269 270 rw ∷ plain 270 1291 w ∷ plain 34359704062 34359704064 rw ∷ plain 34359704064 34359704065 x ∷ plain 34359704065 34359704067 w ∷ plain 34359704831 34359705599 none ∷ []))
-    ∷ step 0 (Map 1105920 12288 rw 50 (negsuc 0) 0) (Ok (Returned 1105920)) (Some (plain 259 260 w ∷ plain 266 267 r ∷ plain 267 268 rx ∷ plain 268 269 none ∷ plain 269 273 rw ∷ plain 273 1291 w ∷ plain 34359704062 34359704064 rw ∷ plain 34359704064 34359704065 x ∷ plain 34359704065 34359704067 w ∷ plain 34359704831 34359705599 none ∷ []))
-    ∷ step 0 (Touch 266 Write) (Ok (Signal AccErr)) None
-    ∷ step 0 (Remap 1093632 4096 4096 7 1105920) (Ok (Returned 1105920)) (Some (plain 259 260 w ∷ plain 266 267 r ∷ plain 267 268 rx ∷ plain 268 269 none ∷ plain 269 270 rw ∷ plain 270 271 rx ∷ plain 271 273 rw ∷ plain 273 1291 w ∷ plain 34359704062 34359704064 rw ∷ plain 34359704064 34359704065 x ∷ plain 34359704065 34359704067 w ∷ plain 34359704831 34359705599 none ∷ []))
-    ∷ step 0 (Protect 1060864 4096 rw) (Ok (Returned 0)) (Some (plain 259 260 rw ∷ plain 266 267 r ∷ plain 267 268 rx ∷ plain 268 269 none ∷ plain 269 270 rw ∷ plain 270 271 rx ∷ plain 271 273 rw ∷ plain 273 1291 w ∷ plain 34359704062 34359704064 rw ∷ plain 34359704064 34359704065 x ∷ plain 34359704065 34359704067 w ∷ plain 34359704831 34359705599 none ∷ []))
+    kernel_step 0 (Map 0 4194304 w 34 (negsuc 0) 0) (Ok (Returned 140737347846144)) (Some (plain 34359704064 34359705088 w ∷ []))
+    ∷ kernel_step 0 (Map 0 34359738368 rw 34 (negsuc 0) 0) (Err 12) (Some (plain 34359704064 34359705088 w ∷ []))
+    ∷ kernel_step 0 (Unmap 140737347858432 4096) (Ok (Returned 0)) (Some (plain 34359704064 34359704067 w ∷ plain 34359704068 34359705088 w ∷ []))
+    ∷ kernel_step 0 (Touch 34359704064 Read) (Ok (Serves 34359704064 34359704067 w false 0)) None
+    ∷ kernel_step 0 (Remap 140737347862528 4177920 4177920 3 1097728) (Ok (Returned 1097728)) (Some (plain 268 1288 w ∷ plain 34359704064 34359704067 w ∷ []))
+    ∷ kernel_step 0 (Protect 1097728 4096 none) (Ok (Returned 0)) (Some (plain 268 269 none ∷ plain 269 1288 w ∷ plain 34359704064 34359704067 w ∷ []))
+    ∷ kernel_step 0 (Touch 276 Exec) (Ok (Signal AccErr)) None
+    ∷ kernel_step 0 (Map 140737347837952 8192 rw 50 (negsuc 0) 0) (Ok (Returned 140737347837952)) (Some (plain 268 269 none ∷ plain 269 1288 w ∷ plain 34359704062 34359704064 rw ∷ plain 34359704064 34359704067 w ∷ []))
+    ∷ kernel_step 0 (Map 1081344 16384 none 289 (negsuc 0) 0) (Err 22) (Some (plain 268 269 none ∷ plain 269 1288 w ∷ plain 34359704062 34359704064 rw ∷ plain 34359704064 34359704067 w ∷ []))
+    ∷ kernel_step 0 (Map 140737347846144 4096 x 32818 (negsuc 0) 0) (Ok (Returned 140737347846144)) (Some (plain 268 269 none ∷ plain 269 1288 w ∷ plain 34359704062 34359704064 rw ∷ plain 34359704064 34359704065 x ∷ plain 34359704065 34359704067 w ∷ []))
+    ∷ kernel_step 0 (Remap 1101824 4173824 4186112 1 0) (Ok (Returned 1101824)) (Some (plain 268 269 none ∷ plain 269 1291 w ∷ plain 34359704062 34359704064 rw ∷ plain 34359704064 34359704065 x ∷ plain 34359704065 34359704067 w ∷ []))
+    ∷ kernel_step 0 (Touch 274 Write) (Ok (Serves 269 1291 w false 0)) None
+    ∷ kernel_step 0 (Protect 1097728 8192 none) (Ok (Returned 0)) (Some (plain 268 269 none ∷ plain 269 270 none ∷ plain 270 1291 w ∷ plain 34359704062 34359704064 rw ∷ plain 34359704064 34359704065 x ∷ plain 34359704065 34359704067 w ∷ []))
+    ∷ kernel_step 0 (Touch 275 Exec) (Ok (Signal AccErr)) None
+    ∷ kernel_step 0 (Map 1089536 4096 r 16434 (negsuc 0) 0) (Ok (Returned 1089536)) (Some (plain 266 267 r ∷ plain 268 269 none ∷ plain 269 270 none ∷ plain 270 1291 w ∷ plain 34359704062 34359704064 rw ∷ plain 34359704064 34359704065 x ∷ plain 34359704065 34359704067 w ∷ []))
+    ∷ kernel_step 0 (Touch 270 Exec) (Ok (Signal AccErr)) None
+    ∷ kernel_step 0 (Protect 1101824 4096 rw) (Ok (Returned 0)) (Some (plain 266 267 r ∷ plain 268 269 none ∷ plain 269 270 rw ∷ plain 270 1291 w ∷ plain 34359704062 34359704064 rw ∷ plain 34359704064 34359704065 x ∷ plain 34359704065 34359704067 w ∷ []))
+    ∷ kernel_step 0 (Map 1093632 4096 rx 1064994 (negsuc 0) 0) (Ok (Returned 1093632)) (Some (plain 266 267 r ∷ plain 267 268 rx ∷ plain 268 269 none ∷ plain 269 270 rw ∷ plain 270 1291 w ∷ plain 34359704062 34359704064 rw ∷ plain 34359704064 34359704065 x ∷ plain 34359704065 34359704067 w ∷ []))
+    ∷ kernel_step 0 (Remap 1089536 8192 8192 7 1089536) (Err 22) (Some (plain 266 267 r ∷ plain 267 268 rx ∷ plain 268 269 none ∷ plain 269 270 rw ∷ plain 270 1291 w ∷ plain 34359704062 34359704064 rw ∷ plain 34359704064 34359704065 x ∷ plain 34359704065 34359704067 w ∷ []))
+    ∷ kernel_step 0 (Touch 267 Write) (Ok (Signal AccErr)) None
+    ∷ kernel_step 0 (Map 1060864 4096 w 1048610 (negsuc 0) 0) (Ok (Returned 1060864)) (Some (plain 259 260 w ∷ plain 266 267 r ∷ plain 267 268 rx ∷ plain 268 269 none ∷ plain 269 270 rw ∷ plain 270 1291 w ∷ plain 34359704062 34359704064 rw ∷ plain 34359704064 34359704065 x ∷ plain 34359704065 34359704067 w ∷ []))
+    ∷ kernel_step 0 (Touch 524 Write) (Ok (Serves 270 1291 w false 0)) None
+    ∷ kernel_step 0 (Touch 267 Read) (Ok (Serves 267 268 rx false 0)) None
+    ∷ kernel_step 0 (Touch 259 Exec) (Ok (Signal AccErr)) None
+    ∷ kernel_step 0 (Touch 268 Write) (Ok (Signal AccErr)) None
+    ∷ kernel_step 0 (Map 0 3145728 none 34 (negsuc 0) 0) (Ok (Returned 140737350987776)) (Some (plain 259 260 w ∷ plain 266 267 r ∷ plain 267 268 rx ∷ plain 268 269 none ∷ plain 269 270 rw ∷ plain 270 1291 w ∷ plain 34359704062 34359704064 rw ∷ plain 34359704064 34359704065 x ∷ plain 34359704065 34359704067 w ∷ plain 34359704831 34359705599 none ∷ []))
+    ∷ kernel_step 0 (Map 1105920 12288 rw 50 (negsuc 0) 0) (Ok (Returned 1105920)) (Some (plain 259 260 w ∷ plain 266 267 r ∷ plain 267 268 rx ∷ plain 268 269 none ∷ plain 269 273 rw ∷ plain 273 1291 w ∷ plain 34359704062 34359704064 rw ∷ plain 34359704064 34359704065 x ∷ plain 34359704065 34359704067 w ∷ plain 34359704831 34359705599 none ∷ []))
+    ∷ kernel_step 0 (Touch 266 Write) (Ok (Signal AccErr)) None
+    ∷ kernel_step 0 (Remap 1093632 4096 4096 7 1105920) (Ok (Returned 1105920)) (Some (plain 259 260 w ∷ plain 266 267 r ∷ plain 267 268 rx ∷ plain 268 269 none ∷ plain 269 270 rw ∷ plain 270 271 rx ∷ plain 271 273 rw ∷ plain 273 1291 w ∷ plain 34359704062 34359704064 rw ∷ plain 34359704064 34359704065 x ∷ plain 34359704065 34359704067 w ∷ plain 34359704831 34359705599 none ∷ []))
+    ∷ kernel_step 0 (Protect 1060864 4096 rw) (Ok (Returned 0)) (Some (plain 259 260 rw ∷ plain 266 267 r ∷ plain 267 268 rx ∷ plain 268 269 none ∷ plain 269 270 rw ∷ plain 270 271 rx ∷ plain 271 273 rw ∷ plain 273 1291 w ∷ plain 34359704062 34359704064 rw ∷ plain 34359704064 34359704065 x ∷ plain 34359704065 34359704067 w ∷ plain 34359704831 34359705599 none ∷ []))
     ∷ []
 
 -- hard_limit_309: the kernel
@@ -856,36 +866,36 @@ hard_limit_309_on = record { rules = linux_6_18; machine = record { lowest_built
 -- hard_limit_309: its answers
 abbrev pub hard_limit_309 : List Step
 hard_limit_309 =
-    step 0 (Map 1056768 4096 rw 50 (negsuc 0) 0) (Ok (Returned 1056768)) (Some (plain 258 259 rw ∷ []))
-    ∷ step 0 (Map 0 12288 x 32770 (pos 3) 0) (Ok (Returned 140737354121216)) (Some (plain 258 259 rw ∷ filed 34359705596 34359705599 x false 0 1 ∷ []))
-    ∷ step 0 (Touch 258 Write) (Ok (Serves 258 259 rw false 0)) None
-    ∷ step 0 (Map 140737354133504 8192 x 18 (pos 3) 12288) (Ok (Returned 140737354133504)) (Some (plain 258 259 rw ∷ filed 34359705596 34359705601 x false 0 1 ∷ []))
-    ∷ step 0 (Remap 1056768 4096 4096 3 1052672) (Err 12) (Some (plain 258 259 rw ∷ filed 34359705596 34359705601 x false 0 1 ∷ []))
-    ∷ step 0 (Touch 258 Write) (Ok (Serves 258 259 rw false 0)) None
-    ∷ step 0 (Touch 258 Write) (Ok (Serves 258 259 rw false 0)) None
-    ∷ step 0 (Remap 1056768 4096 4096 1 0) (Ok (Returned 1056768)) (Some (plain 258 259 rw ∷ filed 34359705596 34359705601 x false 0 1 ∷ []))
-    ∷ step 0 (Map 1069056 12288 rw 1064994 (negsuc 0) 0) (Ok (Returned 1069056)) (Some (plain 258 259 rw ∷ plain 261 264 rw ∷ filed 34359705596 34359705601 x false 0 1 ∷ []))
-    ∷ step 0 (Fork 1) (Ok (Returned 0)) None
-    ∷ step 1 (Protect 1056768 24576 rx) (Err 12) (Some (plain 258 259 rx ∷ plain 261 264 rw ∷ filed 34359705596 34359705601 x false 0 1 ∷ []))
-    ∷ step 0 (Map 0 2101248 w 258 (pos 4) 0) (Err 22) (Some (plain 258 259 rw ∷ plain 261 264 rw ∷ filed 34359705596 34359705601 x false 0 1 ∷ []))
-    ∷ step 0 (Touch 264 Write) (Ok (Signal MapErr)) None
-    ∷ step 1 (Touch 263 Read) (Ok (Serves 261 264 rw false 0)) None
-    ∷ step 1 (Touch 258 Write) (Ok (Signal AccErr)) None
-    ∷ step 1 (Protect 1056768 4096 rw) (Ok (Returned 0)) (Some (plain 258 259 rw ∷ plain 261 264 rw ∷ filed 34359705596 34359705601 x false 0 1 ∷ []))
-    ∷ step 1 (Touch 263 Write) (Ok (Serves 261 264 rw false 0)) None
-    ∷ step 0 (Protect 1105920 4096 x) (Err 12) (Some (plain 258 259 rw ∷ plain 261 264 rw ∷ filed 34359705596 34359705601 x false 0 1 ∷ []))
-    ∷ step 1 (Touch 265 Write) (Ok (Signal MapErr)) None
-    ∷ step 0 (Unmap 1056768 4096) (Ok (Returned 0)) (Some (plain 261 264 rw ∷ filed 34359705596 34359705601 x false 0 1 ∷ []))
-    ∷ step 1 (Touch 258 Write) (Ok (Serves 258 259 rw false 0)) None
-    ∷ step 0 (Protect 1073152 8192 r) (Ok (Returned 0)) (Some (plain 261 262 rw ∷ plain 262 264 r ∷ filed 34359705596 34359705601 x false 0 1 ∷ []))
-    ∷ step 0 (Remap 1073152 8192 20480 1 0) (Ok (Returned 1073152)) (Some (plain 261 262 rw ∷ plain 262 267 r ∷ filed 34359705596 34359705601 x false 0 1 ∷ []))
-    ∷ step 1 (Protect 1056768 4096 rw) (Ok (Returned 0)) (Some (plain 258 259 rw ∷ plain 261 264 rw ∷ filed 34359705596 34359705601 x false 0 1 ∷ []))
-    ∷ step 0 (Remap 1069056 4096 4096 5 0) (Err 12) (Some (plain 261 262 rw ∷ plain 262 267 r ∷ filed 34359705596 34359705601 x false 0 1 ∷ []))
-    ∷ step 0 (Touch 267 Exec) (Ok (Signal MapErr)) None
-    ∷ step 0 (Touch 266 Write) (Ok (Signal AccErr)) None
-    ∷ step 0 (Map 0 68719476736 rw 16418 (negsuc 0) 0) (Ok (Returned 140668632563712)) (Some (plain 261 262 rw ∷ plain 262 267 r ∷ plain 34342927872 34359705088 rw ∷ filed 34359705596 34359705601 x false 0 1 ∷ []))
-    ∷ step 1 (Map 140737354104832 16384 r 50 (negsuc 0) 0) (Ok (Returned 140737354104832)) (Some (plain 258 259 rw ∷ plain 261 264 rw ∷ plain 34359705592 34359705596 r ∷ filed 34359705596 34359705601 x false 0 1 ∷ []))
-    ∷ step 1 (Map 1085440 3145728 rw 34 (negsuc 0) 0) (Ok (Returned 1085440)) (Some (plain 258 259 rw ∷ plain 261 264 rw ∷ plain 265 1033 rw ∷ plain 34359705592 34359705596 r ∷ filed 34359705596 34359705601 x false 0 1 ∷ []))
+    kernel_step 0 (Map 1056768 4096 rw 50 (negsuc 0) 0) (Ok (Returned 1056768)) (Some (plain 258 259 rw ∷ []))
+    ∷ kernel_step 0 (Map 0 12288 x 32770 (pos 3) 0) (Ok (Returned 140737354121216)) (Some (plain 258 259 rw ∷ filed 34359705596 34359705599 x false 0 1 ∷ []))
+    ∷ kernel_step 0 (Touch 258 Write) (Ok (Serves 258 259 rw false 0)) None
+    ∷ kernel_step 0 (Map 140737354133504 8192 x 18 (pos 3) 12288) (Ok (Returned 140737354133504)) (Some (plain 258 259 rw ∷ filed 34359705596 34359705601 x false 0 1 ∷ []))
+    ∷ kernel_step 0 (Remap 1056768 4096 4096 3 1052672) (Err 12) (Some (plain 258 259 rw ∷ filed 34359705596 34359705601 x false 0 1 ∷ []))
+    ∷ kernel_step 0 (Touch 258 Write) (Ok (Serves 258 259 rw false 0)) None
+    ∷ kernel_step 0 (Touch 258 Write) (Ok (Serves 258 259 rw false 0)) None
+    ∷ kernel_step 0 (Remap 1056768 4096 4096 1 0) (Ok (Returned 1056768)) (Some (plain 258 259 rw ∷ filed 34359705596 34359705601 x false 0 1 ∷ []))
+    ∷ kernel_step 0 (Map 1069056 12288 rw 1064994 (negsuc 0) 0) (Ok (Returned 1069056)) (Some (plain 258 259 rw ∷ plain 261 264 rw ∷ filed 34359705596 34359705601 x false 0 1 ∷ []))
+    ∷ kernel_step 0 (Fork 1) (Ok (Returned 0)) None
+    ∷ kernel_step 1 (Protect 1056768 24576 rx) (Err 12) (Some (plain 258 259 rx ∷ plain 261 264 rw ∷ filed 34359705596 34359705601 x false 0 1 ∷ []))
+    ∷ kernel_step 0 (Map 0 2101248 w 258 (pos 4) 0) (Err 22) (Some (plain 258 259 rw ∷ plain 261 264 rw ∷ filed 34359705596 34359705601 x false 0 1 ∷ []))
+    ∷ kernel_step 0 (Touch 264 Write) (Ok (Signal MapErr)) None
+    ∷ kernel_step 1 (Touch 263 Read) (Ok (Serves 261 264 rw false 0)) None
+    ∷ kernel_step 1 (Touch 258 Write) (Ok (Signal AccErr)) None
+    ∷ kernel_step 1 (Protect 1056768 4096 rw) (Ok (Returned 0)) (Some (plain 258 259 rw ∷ plain 261 264 rw ∷ filed 34359705596 34359705601 x false 0 1 ∷ []))
+    ∷ kernel_step 1 (Touch 263 Write) (Ok (Serves 261 264 rw false 0)) None
+    ∷ kernel_step 0 (Protect 1105920 4096 x) (Err 12) (Some (plain 258 259 rw ∷ plain 261 264 rw ∷ filed 34359705596 34359705601 x false 0 1 ∷ []))
+    ∷ kernel_step 1 (Touch 265 Write) (Ok (Signal MapErr)) None
+    ∷ kernel_step 0 (Unmap 1056768 4096) (Ok (Returned 0)) (Some (plain 261 264 rw ∷ filed 34359705596 34359705601 x false 0 1 ∷ []))
+    ∷ kernel_step 1 (Touch 258 Write) (Ok (Serves 258 259 rw false 0)) None
+    ∷ kernel_step 0 (Protect 1073152 8192 r) (Ok (Returned 0)) (Some (plain 261 262 rw ∷ plain 262 264 r ∷ filed 34359705596 34359705601 x false 0 1 ∷ []))
+    ∷ kernel_step 0 (Remap 1073152 8192 20480 1 0) (Ok (Returned 1073152)) (Some (plain 261 262 rw ∷ plain 262 267 r ∷ filed 34359705596 34359705601 x false 0 1 ∷ []))
+    ∷ kernel_step 1 (Protect 1056768 4096 rw) (Ok (Returned 0)) (Some (plain 258 259 rw ∷ plain 261 264 rw ∷ filed 34359705596 34359705601 x false 0 1 ∷ []))
+    ∷ kernel_step 0 (Remap 1069056 4096 4096 5 0) (Err 12) (Some (plain 261 262 rw ∷ plain 262 267 r ∷ filed 34359705596 34359705601 x false 0 1 ∷ []))
+    ∷ kernel_step 0 (Touch 267 Exec) (Ok (Signal MapErr)) None
+    ∷ kernel_step 0 (Touch 266 Write) (Ok (Signal AccErr)) None
+    ∷ kernel_step 0 (Map 0 68719476736 rw 16418 (negsuc 0) 0) (Ok (Returned 140668632563712)) (Some (plain 261 262 rw ∷ plain 262 267 r ∷ plain 34342927872 34359705088 rw ∷ filed 34359705596 34359705601 x false 0 1 ∷ []))
+    ∷ kernel_step 1 (Map 140737354104832 16384 r 50 (negsuc 0) 0) (Ok (Returned 140737354104832)) (Some (plain 258 259 rw ∷ plain 261 264 rw ∷ plain 34359705592 34359705596 r ∷ filed 34359705596 34359705601 x false 0 1 ∷ []))
+    ∷ kernel_step 1 (Map 1085440 3145728 rw 34 (negsuc 0) 0) (Ok (Returned 1085440)) (Some (plain 258 259 rw ∷ plain 261 264 rw ∷ plain 265 1033 rw ∷ plain 34359705592 34359705596 r ∷ filed 34359705596 34359705601 x false 0 1 ∷ []))
     ∷ []
 
 -- hard_328: the kernel
@@ -895,36 +905,36 @@ hard_328_on = record { rules = linux_6_18; machine = record { lowest_built = 16;
 -- hard_328: its answers
 abbrev pub hard_328 : List Step
 hard_328 =
-    step 0 (Map 1056768 16384 r 50 (negsuc 0) 0) (Ok (Returned 1056768)) (Some (heap 258 262 r ∷ []))
-    ∷ step 0 (Map 1073152 16384 r 50 (negsuc 0) 0) (Ok (Returned 1073152)) (Some (heap 258 266 r ∷ []))
-    ∷ step 0 (Break 1056768) (Ok (Returned 1064960)) (Some (heap 258 266 r ∷ []))
-    ∷ step 0 (Touch 267 Write) (Ok (Signal MapErr)) None
-    ∷ step 0 (Touch 265 Write) (Ok (Signal AccErr)) None
-    ∷ step 0 (Touch 260 Exec) (Ok (Signal AccErr)) None
-    ∷ step 0 (Map 1089536 12288 rw 49 (negsuc 0) 0) (Ok (Returned 1089536)) (Some (heap 258 266 r ∷ filed 266 269 rw true 0 2 ∷ []))
-    ∷ step 0 (Touch 258 Write) (Ok (Signal AccErr)) None
-    ∷ step 0 (Protect 1056768 4096 rw) (Ok (Returned 0)) (Some (plain 258 259 rw ∷ heap 259 266 r ∷ filed 266 269 rw true 0 2 ∷ []))
-    ∷ step 0 (Touch 258 Exec) (Ok (Signal AccErr)) None
-    ∷ step 0 (Protect 1089536 12288 rw) (Ok (Returned 0)) (Some (plain 258 259 rw ∷ heap 259 266 r ∷ filed 266 269 rw true 0 2 ∷ []))
-    ∷ step 0 (Protect 1089536 12288 rw) (Ok (Returned 0)) (Some (plain 258 259 rw ∷ heap 259 266 r ∷ filed 266 269 rw true 0 2 ∷ []))
-    ∷ step 0 (Touch 262 Write) (Ok (Signal AccErr)) None
-    ∷ step 0 (Break 1073144) (Ok (Returned 1064960)) (Some (plain 258 259 rw ∷ heap 259 266 r ∷ filed 266 269 rw true 0 2 ∷ []))
-    ∷ step 0 (Remap 1073152 20480 32768 0 0) (Err 14) (Some (plain 258 259 rw ∷ heap 259 266 r ∷ filed 266 269 rw true 0 2 ∷ []))
-    ∷ step 0 (Protect 1056768 4096 rw) (Ok (Returned 0)) (Some (plain 258 259 rw ∷ heap 259 266 r ∷ filed 266 269 rw true 0 2 ∷ []))
-    ∷ step 0 (Map 1060864 4096 r 49 (negsuc 0) 0) (Ok (Returned 1060864)) (Some (plain 258 259 rw ∷ filed 259 260 r true 0 3 ∷ plain 260 266 r ∷ filed 266 269 rw true 0 2 ∷ []))
-    ∷ step 0 (Touch 261 Write) (Ok (Signal AccErr)) None
-    ∷ step 0 (Map 1089536 4096 rw 49 (negsuc 0) 0) (Ok (Returned 1089536)) (Some (plain 258 259 rw ∷ filed 259 260 r true 0 3 ∷ plain 260 266 r ∷ filed 266 267 rw true 0 4 ∷ filed 267 269 rw true 4096 2 ∷ []))
-    ∷ step 0 (Map 1056768 12288 r 50 (negsuc 0) 0) (Ok (Returned 1056768)) (Some (heap 258 266 r ∷ filed 266 267 rw true 0 4 ∷ filed 267 269 rw true 4096 2 ∷ []))
-    ∷ step 0 (Unmap 1056768 36864) (Ok (Returned 0)) (Some (filed 267 269 rw true 4096 2 ∷ []))
-    ∷ step 0 (Remap 1093632 8192 20480 0 0) (Ok (Returned 1093632)) (Some (filed 267 272 rw true 4096 2 ∷ []))
-    ∷ step 0 (Map 1126400 8192 rw 50 (negsuc 0) 0) (Ok (Returned 1126400)) (Some (filed 267 272 rw true 4096 2 ∷ plain 275 277 rw ∷ []))
-    ∷ step 0 (Touch 267 Exec) (Ok (Signal AccErr)) None
-    ∷ step 0 (Map 0 8192 rw 34 (negsuc 0) 0) (Ok (Returned 140737354125312)) (Some (filed 267 272 rw true 4096 2 ∷ plain 275 277 rw ∷ plain 34359705597 34359705599 rw ∷ []))
-    ∷ step 0 (Break 1081344) (Ok (Returned 1081344)) (Some (heap 260 264 rw ∷ filed 267 272 rw true 4096 2 ∷ plain 275 277 rw ∷ plain 34359705597 34359705599 rw ∷ []))
-    ∷ step 0 (Touch 270 Exec) (Ok (Signal BusErr)) None
-    ∷ step 0 (Protect 1077248 20480 r) (Err 12) (Some (heap 260 263 rw ∷ heap 263 264 r ∷ filed 267 272 rw true 4096 2 ∷ plain 275 277 rw ∷ plain 34359705597 34359705599 rw ∷ []))
-    ∷ step 0 (Touch 275 Write) (Ok (Serves 275 277 rw false 0)) None
-    ∷ step 0 (Map 0 4096 rw 33 (negsuc 0) 0) (Ok (Returned 140737354121216)) (Some (heap 260 263 rw ∷ heap 263 264 r ∷ filed 267 272 rw true 4096 2 ∷ plain 275 277 rw ∷ filed 34359705596 34359705597 rw true 0 5 ∷ plain 34359705597 34359705599 rw ∷ []))
+    kernel_step 0 (Map 1056768 16384 r 50 (negsuc 0) 0) (Ok (Returned 1056768)) (Some (heap 258 262 r ∷ []))
+    ∷ kernel_step 0 (Map 1073152 16384 r 50 (negsuc 0) 0) (Ok (Returned 1073152)) (Some (heap 258 266 r ∷ []))
+    ∷ kernel_step 0 (Break 1056768) (Ok (Returned 1064960)) (Some (heap 258 266 r ∷ []))
+    ∷ kernel_step 0 (Touch 267 Write) (Ok (Signal MapErr)) None
+    ∷ kernel_step 0 (Touch 265 Write) (Ok (Signal AccErr)) None
+    ∷ kernel_step 0 (Touch 260 Exec) (Ok (Signal AccErr)) None
+    ∷ kernel_step 0 (Map 1089536 12288 rw 49 (negsuc 0) 0) (Ok (Returned 1089536)) (Some (heap 258 266 r ∷ filed 266 269 rw true 0 2 ∷ []))
+    ∷ kernel_step 0 (Touch 258 Write) (Ok (Signal AccErr)) None
+    ∷ kernel_step 0 (Protect 1056768 4096 rw) (Ok (Returned 0)) (Some (plain 258 259 rw ∷ heap 259 266 r ∷ filed 266 269 rw true 0 2 ∷ []))
+    ∷ kernel_step 0 (Touch 258 Exec) (Ok (Signal AccErr)) None
+    ∷ kernel_step 0 (Protect 1089536 12288 rw) (Ok (Returned 0)) (Some (plain 258 259 rw ∷ heap 259 266 r ∷ filed 266 269 rw true 0 2 ∷ []))
+    ∷ kernel_step 0 (Protect 1089536 12288 rw) (Ok (Returned 0)) (Some (plain 258 259 rw ∷ heap 259 266 r ∷ filed 266 269 rw true 0 2 ∷ []))
+    ∷ kernel_step 0 (Touch 262 Write) (Ok (Signal AccErr)) None
+    ∷ kernel_step 0 (Break 1073144) (Ok (Returned 1064960)) (Some (plain 258 259 rw ∷ heap 259 266 r ∷ filed 266 269 rw true 0 2 ∷ []))
+    ∷ kernel_step 0 (Remap 1073152 20480 32768 0 0) (Err 14) (Some (plain 258 259 rw ∷ heap 259 266 r ∷ filed 266 269 rw true 0 2 ∷ []))
+    ∷ kernel_step 0 (Protect 1056768 4096 rw) (Ok (Returned 0)) (Some (plain 258 259 rw ∷ heap 259 266 r ∷ filed 266 269 rw true 0 2 ∷ []))
+    ∷ kernel_step 0 (Map 1060864 4096 r 49 (negsuc 0) 0) (Ok (Returned 1060864)) (Some (plain 258 259 rw ∷ filed 259 260 r true 0 3 ∷ plain 260 266 r ∷ filed 266 269 rw true 0 2 ∷ []))
+    ∷ kernel_step 0 (Touch 261 Write) (Ok (Signal AccErr)) None
+    ∷ kernel_step 0 (Map 1089536 4096 rw 49 (negsuc 0) 0) (Ok (Returned 1089536)) (Some (plain 258 259 rw ∷ filed 259 260 r true 0 3 ∷ plain 260 266 r ∷ filed 266 267 rw true 0 4 ∷ filed 267 269 rw true 4096 2 ∷ []))
+    ∷ kernel_step 0 (Map 1056768 12288 r 50 (negsuc 0) 0) (Ok (Returned 1056768)) (Some (heap 258 266 r ∷ filed 266 267 rw true 0 4 ∷ filed 267 269 rw true 4096 2 ∷ []))
+    ∷ kernel_step 0 (Unmap 1056768 36864) (Ok (Returned 0)) (Some (filed 267 269 rw true 4096 2 ∷ []))
+    ∷ kernel_step 0 (Remap 1093632 8192 20480 0 0) (Ok (Returned 1093632)) (Some (filed 267 272 rw true 4096 2 ∷ []))
+    ∷ kernel_step 0 (Map 1126400 8192 rw 50 (negsuc 0) 0) (Ok (Returned 1126400)) (Some (filed 267 272 rw true 4096 2 ∷ plain 275 277 rw ∷ []))
+    ∷ kernel_step 0 (Touch 267 Exec) (Ok (Signal AccErr)) None
+    ∷ kernel_step 0 (Map 0 8192 rw 34 (negsuc 0) 0) (Ok (Returned 140737354125312)) (Some (filed 267 272 rw true 4096 2 ∷ plain 275 277 rw ∷ plain 34359705597 34359705599 rw ∷ []))
+    ∷ kernel_step 0 (Break 1081344) (Ok (Returned 1081344)) (Some (heap 260 264 rw ∷ filed 267 272 rw true 4096 2 ∷ plain 275 277 rw ∷ plain 34359705597 34359705599 rw ∷ []))
+    ∷ kernel_step 0 (Touch 270 Exec) (Ok (Signal BusErr)) None
+    ∷ kernel_step 0 (Protect 1077248 20480 r) (Err 12) (Some (heap 260 263 rw ∷ heap 263 264 r ∷ filed 267 272 rw true 4096 2 ∷ plain 275 277 rw ∷ plain 34359705597 34359705599 rw ∷ []))
+    ∷ kernel_step 0 (Touch 275 Write) (Ok (Serves 275 277 rw false 0)) None
+    ∷ kernel_step 0 (Map 0 4096 rw 33 (negsuc 0) 0) (Ok (Returned 140737354121216)) (Some (heap 260 263 rw ∷ heap 263 264 r ∷ filed 267 272 rw true 4096 2 ∷ plain 275 277 rw ∷ filed 34359705596 34359705597 rw true 0 5 ∷ plain 34359705597 34359705599 rw ∷ []))
     ∷ []
 
 -- written_428: the kernel
@@ -934,36 +944,36 @@ written_428_on = record { rules = linux_6_18; machine = record { lowest_built = 
 -- written_428: its answers
 abbrev pub written_428 : List Step
 written_428 =
-    step 0 (Map 1048576 12288 rwx 50 (negsuc 0) 0) (Ok (Returned 1048576)) (Some (plain 256 259 rwx ∷ []))
-    ∷ step 0 (Map 1073152 16384 rwx 50 (negsuc 0) 0) (Ok (Returned 1073152)) (Some (plain 256 259 rwx ∷ plain 262 266 rwx ∷ []))
-    ∷ step 0 (Touch 257 Write) (Ok (Serves 256 259 rwx false 0)) None
-    ∷ step 0 (Protect 1073152 4096 rw) (Ok (Returned 0)) (Some (plain 256 259 rwx ∷ plain 262 263 rw ∷ plain 263 266 rwx ∷ []))
-    ∷ step 0 (Map 1048576 8192 rw 50 (negsuc 0) 0) (Ok (Returned 1048576)) (Some (plain 256 258 rw ∷ plain 258 259 rwx ∷ plain 262 263 rw ∷ plain 263 266 rwx ∷ []))
-    ∷ step 0 (Protect 1056768 4096 rw) (Ok (Returned 0)) (Some (plain 256 259 rw ∷ plain 262 263 rw ∷ plain 263 266 rwx ∷ []))
-    ∷ step 0 (Map 1052672 4096 rw 50 (negsuc 0) 0) (Ok (Returned 1052672)) (Some (plain 256 259 rw ∷ plain 262 263 rw ∷ plain 263 266 rwx ∷ []))
-    ∷ step 0 (Touch 257 Write) (Ok (Serves 256 259 rw false 0)) None
-    ∷ step 0 (Touch 264 Write) (Ok (Serves 263 266 rwx false 0)) None
-    ∷ step 0 (Protect 1073152 4096 rw) (Ok (Returned 0)) (Some (plain 256 259 rw ∷ plain 262 263 rw ∷ plain 263 266 rwx ∷ []))
-    ∷ step 0 (Protect 1077248 16384 rw) (Err 12) (Some (plain 256 259 rw ∷ plain 262 266 rw ∷ []))
-    ∷ step 0 (Touch 256 Write) (Ok (Serves 256 259 rw false 0)) None
-    ∷ step 0 (Protect 1048576 28672 rw) (Err 12) (Some (plain 256 259 rw ∷ plain 262 266 rw ∷ []))
-    ∷ step 0 (Touch 265 Write) (Ok (Serves 262 266 rw false 0)) None
-    ∷ step 0 (Protect 1073152 4096 rw) (Ok (Returned 0)) (Some (plain 256 259 rw ∷ plain 262 266 rw ∷ []))
-    ∷ step 0 (Protect 1052672 12288 r) (Err 12) (Some (plain 256 257 rw ∷ plain 257 259 r ∷ plain 262 266 rw ∷ []))
-    ∷ step 0 (Protect 1052672 4096 rw) (Ok (Returned 0)) (Some (plain 256 258 rw ∷ plain 258 259 r ∷ plain 262 266 rw ∷ []))
-    ∷ step 0 (Touch 258 Write) (Ok (Signal AccErr)) None
-    ∷ step 0 (Touch 258 Write) (Ok (Signal AccErr)) None
-    ∷ step 0 (Map 1056768 12288 rwx 50 (negsuc 0) 0) (Ok (Returned 1056768)) (Some (plain 256 258 rw ∷ plain 258 261 rwx ∷ plain 262 266 rw ∷ []))
-    ∷ step 0 (Protect 1056768 8192 rwx) (Ok (Returned 0)) (Some (plain 256 258 rw ∷ plain 258 261 rwx ∷ plain 262 266 rw ∷ []))
-    ∷ step 0 (Touch 260 Read) (Ok (Serves 258 261 rwx false 0)) None
-    ∷ step 0 (Fork 1) (Ok (Returned 0)) None
-    ∷ step 0 (Map 1077248 4096 rwx 50 (negsuc 0) 0) (Ok (Returned 1077248)) (Some (plain 256 258 rw ∷ plain 258 261 rwx ∷ plain 262 263 rw ∷ plain 263 264 rwx ∷ plain 264 266 rw ∷ []))
-    ∷ step 1 (Touch 258 Write) (Ok (Serves 258 261 rwx false 0)) None
-    ∷ step 0 (Remap 1060864 12288 12288 3 1642496) (Ok (Returned 1642496)) (Some (plain 256 258 rw ∷ plain 258 259 rwx ∷ plain 262 263 rw ∷ plain 263 264 rwx ∷ plain 264 266 rw ∷ plain 401 403 rwx ∷ []))
-    ∷ step 0 (Touch 265 Read) (Ok (Serves 264 266 rw false 0)) None
-    ∷ step 1 (Protect 1056768 12288 rw) (Ok (Returned 0)) (Some (plain 256 258 rw ∷ plain 258 261 rw ∷ plain 262 266 rw ∷ []))
-    ∷ step 1 (Map 1048576 8192 r 50 (negsuc 0) 0) (Ok (Returned 1048576)) (Some (plain 256 258 r ∷ plain 258 261 rw ∷ plain 262 266 rw ∷ []))
-    ∷ step 0 (Map 1048576 4096 rw 50 (negsuc 0) 0) (Ok (Returned 1048576)) (Some (plain 256 258 rw ∷ plain 258 259 rwx ∷ plain 262 263 rw ∷ plain 263 264 rwx ∷ plain 264 266 rw ∷ plain 401 403 rwx ∷ []))
+    kernel_step 0 (Map 1048576 12288 rwx 50 (negsuc 0) 0) (Ok (Returned 1048576)) (Some (plain 256 259 rwx ∷ []))
+    ∷ kernel_step 0 (Map 1073152 16384 rwx 50 (negsuc 0) 0) (Ok (Returned 1073152)) (Some (plain 256 259 rwx ∷ plain 262 266 rwx ∷ []))
+    ∷ kernel_step 0 (Touch 257 Write) (Ok (Serves 256 259 rwx false 0)) None
+    ∷ kernel_step 0 (Protect 1073152 4096 rw) (Ok (Returned 0)) (Some (plain 256 259 rwx ∷ plain 262 263 rw ∷ plain 263 266 rwx ∷ []))
+    ∷ kernel_step 0 (Map 1048576 8192 rw 50 (negsuc 0) 0) (Ok (Returned 1048576)) (Some (plain 256 258 rw ∷ plain 258 259 rwx ∷ plain 262 263 rw ∷ plain 263 266 rwx ∷ []))
+    ∷ kernel_step 0 (Protect 1056768 4096 rw) (Ok (Returned 0)) (Some (plain 256 259 rw ∷ plain 262 263 rw ∷ plain 263 266 rwx ∷ []))
+    ∷ kernel_step 0 (Map 1052672 4096 rw 50 (negsuc 0) 0) (Ok (Returned 1052672)) (Some (plain 256 259 rw ∷ plain 262 263 rw ∷ plain 263 266 rwx ∷ []))
+    ∷ kernel_step 0 (Touch 257 Write) (Ok (Serves 256 259 rw false 0)) None
+    ∷ kernel_step 0 (Touch 264 Write) (Ok (Serves 263 266 rwx false 0)) None
+    ∷ kernel_step 0 (Protect 1073152 4096 rw) (Ok (Returned 0)) (Some (plain 256 259 rw ∷ plain 262 263 rw ∷ plain 263 266 rwx ∷ []))
+    ∷ kernel_step 0 (Protect 1077248 16384 rw) (Err 12) (Some (plain 256 259 rw ∷ plain 262 266 rw ∷ []))
+    ∷ kernel_step 0 (Touch 256 Write) (Ok (Serves 256 259 rw false 0)) None
+    ∷ kernel_step 0 (Protect 1048576 28672 rw) (Err 12) (Some (plain 256 259 rw ∷ plain 262 266 rw ∷ []))
+    ∷ kernel_step 0 (Touch 265 Write) (Ok (Serves 262 266 rw false 0)) None
+    ∷ kernel_step 0 (Protect 1073152 4096 rw) (Ok (Returned 0)) (Some (plain 256 259 rw ∷ plain 262 266 rw ∷ []))
+    ∷ kernel_step 0 (Protect 1052672 12288 r) (Err 12) (Some (plain 256 257 rw ∷ plain 257 259 r ∷ plain 262 266 rw ∷ []))
+    ∷ kernel_step 0 (Protect 1052672 4096 rw) (Ok (Returned 0)) (Some (plain 256 258 rw ∷ plain 258 259 r ∷ plain 262 266 rw ∷ []))
+    ∷ kernel_step 0 (Touch 258 Write) (Ok (Signal AccErr)) None
+    ∷ kernel_step 0 (Touch 258 Write) (Ok (Signal AccErr)) None
+    ∷ kernel_step 0 (Map 1056768 12288 rwx 50 (negsuc 0) 0) (Ok (Returned 1056768)) (Some (plain 256 258 rw ∷ plain 258 261 rwx ∷ plain 262 266 rw ∷ []))
+    ∷ kernel_step 0 (Protect 1056768 8192 rwx) (Ok (Returned 0)) (Some (plain 256 258 rw ∷ plain 258 261 rwx ∷ plain 262 266 rw ∷ []))
+    ∷ kernel_step 0 (Touch 260 Read) (Ok (Serves 258 261 rwx false 0)) None
+    ∷ kernel_step 0 (Fork 1) (Ok (Returned 0)) None
+    ∷ kernel_step 0 (Map 1077248 4096 rwx 50 (negsuc 0) 0) (Ok (Returned 1077248)) (Some (plain 256 258 rw ∷ plain 258 261 rwx ∷ plain 262 263 rw ∷ plain 263 264 rwx ∷ plain 264 266 rw ∷ []))
+    ∷ kernel_step 1 (Touch 258 Write) (Ok (Serves 258 261 rwx false 0)) None
+    ∷ kernel_step 0 (Remap 1060864 12288 12288 3 1642496) (Ok (Returned 1642496)) (Some (plain 256 258 rw ∷ plain 258 259 rwx ∷ plain 262 263 rw ∷ plain 263 264 rwx ∷ plain 264 266 rw ∷ plain 401 403 rwx ∷ []))
+    ∷ kernel_step 0 (Touch 265 Read) (Ok (Serves 264 266 rw false 0)) None
+    ∷ kernel_step 1 (Protect 1056768 12288 rw) (Ok (Returned 0)) (Some (plain 256 258 rw ∷ plain 258 261 rw ∷ plain 262 266 rw ∷ []))
+    ∷ kernel_step 1 (Map 1048576 8192 r 50 (negsuc 0) 0) (Ok (Returned 1048576)) (Some (plain 256 258 r ∷ plain 258 261 rw ∷ plain 262 266 rw ∷ []))
+    ∷ kernel_step 0 (Map 1048576 4096 rw 50 (negsuc 0) 0) (Ok (Returned 1048576)) (Some (plain 256 258 rw ∷ plain 258 259 rwx ∷ plain 262 263 rw ∷ plain 263 264 rwx ∷ plain 264 266 rw ∷ plain 401 403 rwx ∷ []))
     ∷ []
 
 -- hard_587: the kernel
@@ -973,36 +983,36 @@ hard_587_on = record { rules = linux_6_18; machine = record { lowest_built = 16;
 -- hard_587: its answers
 abbrev pub hard_587 : List Step
 hard_587 =
-    step 0 (Map 1105920 12288 rw 50 (negsuc 0) 0) (Ok (Returned 1105920)) (Some (plain 270 273 rw ∷ []))
-    ∷ step 0 (Map 1089536 4096 rx 18 (pos 4) 8192) (Ok (Returned 1089536)) (Some (filed 266 267 rx false 8192 2 ∷ plain 270 273 rw ∷ []))
-    ∷ step 0 (Map 1105920 12288 r 50 (negsuc 0) 0) (Ok (Returned 1105920)) (Some (filed 266 267 rx false 8192 2 ∷ plain 270 273 r ∷ []))
-    ∷ step 0 (Touch 266 Write) (Ok (Signal AccErr)) None
-    ∷ step 0 (Map 0 8192 rwx 32769 (pos 5) 8192) (Err 13) (Some (filed 266 267 rx false 8192 2 ∷ plain 270 273 r ∷ []))
-    ∷ step 0 (Map 1097728 8192 rw 50 (negsuc 0) 0) (Ok (Returned 1097728)) (Some (filed 266 267 rx false 8192 2 ∷ plain 268 270 rw ∷ plain 270 273 r ∷ []))
-    ∷ step 0 (Map 1052672 16384 rw 50 (negsuc 0) 0) (Ok (Returned 1052672)) (Some (plain 257 261 rw ∷ filed 266 267 rx false 8192 2 ∷ plain 268 270 rw ∷ plain 270 273 r ∷ []))
-    ∷ step 0 (Touch 259 Write) (Ok (Serves 257 261 rw false 0)) None
-    ∷ step 0 (Map 1064960 8192 none 50 (negsuc 0) 0) (Ok (Returned 1064960)) (Some (plain 257 260 rw ∷ plain 260 262 none ∷ filed 266 267 rx false 8192 2 ∷ plain 268 270 rw ∷ plain 270 273 r ∷ []))
-    ∷ step 0 (Touch 260 Write) (Ok (Signal AccErr)) None
-    ∷ step 0 (Protect 1110016 8192 x) (Ok (Returned 0)) (Some (plain 257 260 rw ∷ plain 260 262 none ∷ filed 266 267 rx false 8192 2 ∷ plain 268 270 rw ∷ plain 270 271 r ∷ plain 271 273 x ∷ []))
-    ∷ step 0 (Protect 1105920 4096 rw) (Ok (Returned 0)) (Some (plain 257 260 rw ∷ plain 260 262 none ∷ filed 266 267 rx false 8192 2 ∷ plain 268 271 rw ∷ plain 271 273 x ∷ []))
-    ∷ step 0 (Map 1064960 4096 w 34 (negsuc 0) 0) (Ok (Returned 140737354129408)) (Some (plain 257 260 rw ∷ plain 260 262 none ∷ filed 266 267 rx false 8192 2 ∷ plain 268 271 rw ∷ plain 271 273 x ∷ plain 34359705598 34359705599 w ∷ []))
-    ∷ step 0 (Protect 1110016 8192 rw) (Ok (Returned 0)) (Some (plain 257 260 rw ∷ plain 260 262 none ∷ filed 266 267 rx false 8192 2 ∷ plain 268 273 rw ∷ plain 34359705598 34359705599 w ∷ []))
-    ∷ step 0 (Remap 1052672 16384 16384 7 1032192) (Ok (Returned 1032192)) (Some (plain 252 255 rw ∷ plain 255 256 none ∷ plain 257 260 rw ∷ plain 260 262 none ∷ filed 266 267 rx false 8192 2 ∷ plain 268 273 rw ∷ plain 34359705598 34359705599 w ∷ []))
-    ∷ step 0 (Map 1073152 12288 rw 305 (negsuc 0) 0) (Err 22) (Some (plain 252 255 rw ∷ plain 255 256 none ∷ plain 257 260 rw ∷ plain 260 262 none ∷ filed 266 267 rx false 8192 2 ∷ plain 268 273 rw ∷ plain 34359705598 34359705599 w ∷ []))
-    ∷ step 0 (Remap 1052672 4096 4096 7 1048576) (Ok (Returned 1048576)) (Some (plain 252 255 rw ∷ plain 255 256 none ∷ plain 256 260 rw ∷ plain 260 262 none ∷ filed 266 267 rx false 8192 2 ∷ plain 268 273 rw ∷ plain 34359705598 34359705599 w ∷ []))
-    ∷ step 0 (Protect 1052672 12288 none) (Ok (Returned 0)) (Some (plain 252 255 rw ∷ plain 255 256 none ∷ plain 256 257 rw ∷ plain 257 262 none ∷ filed 266 267 rx false 8192 2 ∷ plain 268 273 rw ∷ plain 34359705598 34359705599 w ∷ []))
-    ∷ step 0 (Protect 1069056 8192 w) (Err 12) (Some (plain 252 255 rw ∷ plain 255 256 none ∷ plain 256 257 rw ∷ plain 257 261 none ∷ plain 261 262 w ∷ filed 266 267 rx false 8192 2 ∷ plain 268 273 rw ∷ plain 34359705598 34359705599 w ∷ []))
-    ∷ step 0 (Protect 1097728 20480 none) (Ok (Returned 0)) (Some (plain 252 255 rw ∷ plain 255 256 none ∷ plain 256 257 rw ∷ plain 257 261 none ∷ plain 261 262 w ∷ filed 266 267 rx false 8192 2 ∷ plain 268 273 none ∷ plain 34359705598 34359705599 w ∷ []))
-    ∷ step 0 (Touch 266 Write) (Ok (Signal AccErr)) None
-    ∷ step 0 (Touch 273 Write) (Ok (Signal MapErr)) None
-    ∷ step 0 (Remap 1089536 4096 16384 1 0) (Ok (Returned 140737354113024)) (Some (plain 252 255 rw ∷ plain 255 256 none ∷ plain 256 257 rw ∷ plain 257 261 none ∷ plain 261 262 w ∷ plain 268 273 none ∷ filed 34359705594 34359705598 rx false 8192 2 ∷ plain 34359705598 34359705599 w ∷ []))
-    ∷ step 0 (Touch 264 Write) (Ok (Signal MapErr)) None
-    ∷ step 0 (Touch 268 Write) (Ok (Signal AccErr)) None
-    ∷ step 0 (Touch 269 Write) (Ok (Signal AccErr)) None
-    ∷ step 0 (Unmap 1064960 4096) (Ok (Returned 0)) (Some (plain 252 255 rw ∷ plain 255 256 none ∷ plain 256 257 rw ∷ plain 257 260 none ∷ plain 261 262 w ∷ plain 268 273 none ∷ filed 34359705594 34359705598 rx false 8192 2 ∷ plain 34359705598 34359705599 w ∷ []))
-    ∷ step 0 (Touch 258 Write) (Ok (Signal AccErr)) None
-    ∷ step 0 (Protect 1097728 12288 rwx) (Ok (Returned 0)) (Some (plain 252 255 rw ∷ plain 255 256 none ∷ plain 256 257 rw ∷ plain 257 260 none ∷ plain 261 262 w ∷ plain 268 271 rwx ∷ plain 271 273 none ∷ filed 34359705594 34359705598 rx false 8192 2 ∷ plain 34359705598 34359705599 w ∷ []))
-    ∷ step 0 (Remap 1110016 16384 12288 3 1118208) (Err 22) (Some (plain 252 255 rw ∷ plain 255 256 none ∷ plain 256 257 rw ∷ plain 257 260 none ∷ plain 261 262 w ∷ plain 268 271 rwx ∷ plain 271 273 none ∷ filed 34359705594 34359705598 rx false 8192 2 ∷ plain 34359705598 34359705599 w ∷ []))
+    kernel_step 0 (Map 1105920 12288 rw 50 (negsuc 0) 0) (Ok (Returned 1105920)) (Some (plain 270 273 rw ∷ []))
+    ∷ kernel_step 0 (Map 1089536 4096 rx 18 (pos 4) 8192) (Ok (Returned 1089536)) (Some (filed 266 267 rx false 8192 2 ∷ plain 270 273 rw ∷ []))
+    ∷ kernel_step 0 (Map 1105920 12288 r 50 (negsuc 0) 0) (Ok (Returned 1105920)) (Some (filed 266 267 rx false 8192 2 ∷ plain 270 273 r ∷ []))
+    ∷ kernel_step 0 (Touch 266 Write) (Ok (Signal AccErr)) None
+    ∷ kernel_step 0 (Map 0 8192 rwx 32769 (pos 5) 8192) (Err 13) (Some (filed 266 267 rx false 8192 2 ∷ plain 270 273 r ∷ []))
+    ∷ kernel_step 0 (Map 1097728 8192 rw 50 (negsuc 0) 0) (Ok (Returned 1097728)) (Some (filed 266 267 rx false 8192 2 ∷ plain 268 270 rw ∷ plain 270 273 r ∷ []))
+    ∷ kernel_step 0 (Map 1052672 16384 rw 50 (negsuc 0) 0) (Ok (Returned 1052672)) (Some (plain 257 261 rw ∷ filed 266 267 rx false 8192 2 ∷ plain 268 270 rw ∷ plain 270 273 r ∷ []))
+    ∷ kernel_step 0 (Touch 259 Write) (Ok (Serves 257 261 rw false 0)) None
+    ∷ kernel_step 0 (Map 1064960 8192 none 50 (negsuc 0) 0) (Ok (Returned 1064960)) (Some (plain 257 260 rw ∷ plain 260 262 none ∷ filed 266 267 rx false 8192 2 ∷ plain 268 270 rw ∷ plain 270 273 r ∷ []))
+    ∷ kernel_step 0 (Touch 260 Write) (Ok (Signal AccErr)) None
+    ∷ kernel_step 0 (Protect 1110016 8192 x) (Ok (Returned 0)) (Some (plain 257 260 rw ∷ plain 260 262 none ∷ filed 266 267 rx false 8192 2 ∷ plain 268 270 rw ∷ plain 270 271 r ∷ plain 271 273 x ∷ []))
+    ∷ kernel_step 0 (Protect 1105920 4096 rw) (Ok (Returned 0)) (Some (plain 257 260 rw ∷ plain 260 262 none ∷ filed 266 267 rx false 8192 2 ∷ plain 268 271 rw ∷ plain 271 273 x ∷ []))
+    ∷ kernel_step 0 (Map 1064960 4096 w 34 (negsuc 0) 0) (Ok (Returned 140737354129408)) (Some (plain 257 260 rw ∷ plain 260 262 none ∷ filed 266 267 rx false 8192 2 ∷ plain 268 271 rw ∷ plain 271 273 x ∷ plain 34359705598 34359705599 w ∷ []))
+    ∷ kernel_step 0 (Protect 1110016 8192 rw) (Ok (Returned 0)) (Some (plain 257 260 rw ∷ plain 260 262 none ∷ filed 266 267 rx false 8192 2 ∷ plain 268 273 rw ∷ plain 34359705598 34359705599 w ∷ []))
+    ∷ kernel_step 0 (Remap 1052672 16384 16384 7 1032192) (Ok (Returned 1032192)) (Some (plain 252 255 rw ∷ plain 255 256 none ∷ plain 257 260 rw ∷ plain 260 262 none ∷ filed 266 267 rx false 8192 2 ∷ plain 268 273 rw ∷ plain 34359705598 34359705599 w ∷ []))
+    ∷ kernel_step 0 (Map 1073152 12288 rw 305 (negsuc 0) 0) (Err 22) (Some (plain 252 255 rw ∷ plain 255 256 none ∷ plain 257 260 rw ∷ plain 260 262 none ∷ filed 266 267 rx false 8192 2 ∷ plain 268 273 rw ∷ plain 34359705598 34359705599 w ∷ []))
+    ∷ kernel_step 0 (Remap 1052672 4096 4096 7 1048576) (Ok (Returned 1048576)) (Some (plain 252 255 rw ∷ plain 255 256 none ∷ plain 256 260 rw ∷ plain 260 262 none ∷ filed 266 267 rx false 8192 2 ∷ plain 268 273 rw ∷ plain 34359705598 34359705599 w ∷ []))
+    ∷ kernel_step 0 (Protect 1052672 12288 none) (Ok (Returned 0)) (Some (plain 252 255 rw ∷ plain 255 256 none ∷ plain 256 257 rw ∷ plain 257 262 none ∷ filed 266 267 rx false 8192 2 ∷ plain 268 273 rw ∷ plain 34359705598 34359705599 w ∷ []))
+    ∷ kernel_step 0 (Protect 1069056 8192 w) (Err 12) (Some (plain 252 255 rw ∷ plain 255 256 none ∷ plain 256 257 rw ∷ plain 257 261 none ∷ plain 261 262 w ∷ filed 266 267 rx false 8192 2 ∷ plain 268 273 rw ∷ plain 34359705598 34359705599 w ∷ []))
+    ∷ kernel_step 0 (Protect 1097728 20480 none) (Ok (Returned 0)) (Some (plain 252 255 rw ∷ plain 255 256 none ∷ plain 256 257 rw ∷ plain 257 261 none ∷ plain 261 262 w ∷ filed 266 267 rx false 8192 2 ∷ plain 268 273 none ∷ plain 34359705598 34359705599 w ∷ []))
+    ∷ kernel_step 0 (Touch 266 Write) (Ok (Signal AccErr)) None
+    ∷ kernel_step 0 (Touch 273 Write) (Ok (Signal MapErr)) None
+    ∷ kernel_step 0 (Remap 1089536 4096 16384 1 0) (Ok (Returned 140737354113024)) (Some (plain 252 255 rw ∷ plain 255 256 none ∷ plain 256 257 rw ∷ plain 257 261 none ∷ plain 261 262 w ∷ plain 268 273 none ∷ filed 34359705594 34359705598 rx false 8192 2 ∷ plain 34359705598 34359705599 w ∷ []))
+    ∷ kernel_step 0 (Touch 264 Write) (Ok (Signal MapErr)) None
+    ∷ kernel_step 0 (Touch 268 Write) (Ok (Signal AccErr)) None
+    ∷ kernel_step 0 (Touch 269 Write) (Ok (Signal AccErr)) None
+    ∷ kernel_step 0 (Unmap 1064960 4096) (Ok (Returned 0)) (Some (plain 252 255 rw ∷ plain 255 256 none ∷ plain 256 257 rw ∷ plain 257 260 none ∷ plain 261 262 w ∷ plain 268 273 none ∷ filed 34359705594 34359705598 rx false 8192 2 ∷ plain 34359705598 34359705599 w ∷ []))
+    ∷ kernel_step 0 (Touch 258 Write) (Ok (Signal AccErr)) None
+    ∷ kernel_step 0 (Protect 1097728 12288 rwx) (Ok (Returned 0)) (Some (plain 252 255 rw ∷ plain 255 256 none ∷ plain 256 257 rw ∷ plain 257 260 none ∷ plain 261 262 w ∷ plain 268 271 rwx ∷ plain 271 273 none ∷ filed 34359705594 34359705598 rx false 8192 2 ∷ plain 34359705598 34359705599 w ∷ []))
+    ∷ kernel_step 0 (Remap 1110016 16384 12288 3 1118208) (Err 22) (Some (plain 252 255 rw ∷ plain 255 256 none ∷ plain 256 257 rw ∷ plain 257 260 none ∷ plain 261 262 w ∷ plain 268 271 rwx ∷ plain 271 273 none ∷ filed 34359705594 34359705598 rx false 8192 2 ∷ plain 34359705598 34359705599 w ∷ []))
     ∷ []
 
 -- hard_611: the kernel
@@ -1012,36 +1022,36 @@ hard_611_on = record { rules = linux_6_18; machine = record { lowest_built = 16;
 -- hard_611: its answers
 abbrev pub hard_611 : List Step
 hard_611 =
-    step 0 (Map 0 4194304 w 34 (negsuc 0) 0) (Ok (Returned 140737347846144)) (Some (plain 34359704064 34359705088 w ∷ []))
-    ∷ step 0 (Map 0 8589934592 rw 34 (negsuc 0) 0) (Ok (Returned 140728757911552)) (Some (plain 34357606912 34359704064 rw ∷ plain 34359704064 34359705088 w ∷ []))
-    ∷ step 0 (Map 0 2101248 rwx 34 (negsuc 0) 0) (Ok (Returned 140728755810304)) (Some (plain 34357606399 34357606912 rwx ∷ plain 34357606912 34359704064 rw ∷ plain 34359704064 34359705088 w ∷ []))
-    ∷ step 0 (Remap 140737345744896 0 2101248 0 0) (Err 22) (Some (plain 34357606399 34357606912 rwx ∷ plain 34357606912 34359704064 rw ∷ plain 34359704064 34359705088 w ∷ []))
-    ∷ step 0 (Protect 140737347846144 4194304 x) (Ok (Returned 0)) (Some (plain 34357606399 34357606912 rwx ∷ plain 34357606912 34359704064 rw ∷ plain 34359704064 34359705088 x ∷ []))
-    ∷ step 0 (Touch 34359704011 Read) (Ok (Serves 34357606912 34359704064 rw false 0)) None
-    ∷ step 0 (Protect 140737345789952 2056192 r) (Ok (Returned 0)) (Some (plain 34357606399 34357606912 rwx ∷ plain 34357606912 34359703562 rw ∷ plain 34359703562 34359704064 r ∷ plain 34359704064 34359705088 x ∷ []))
-    ∷ step 0 (Remap 140737345744896 45056 45056 7 1101824) (Ok (Returned 1101824)) (Some (plain 269 280 rw ∷ plain 34357606399 34357606912 rwx ∷ plain 34357606912 34359703562 rw ∷ plain 34359703562 34359704064 r ∷ plain 34359704064 34359705088 x ∷ []))
-    ∷ step 0 (Break 1064960) (Ok (Returned 1064960)) (Some (heap 257 260 rw ∷ plain 269 280 rw ∷ plain 34357606399 34357606912 rwx ∷ plain 34357606912 34359703562 rw ∷ plain 34359703562 34359704064 r ∷ plain 34359704064 34359705088 x ∷ []))
-    ∷ step 0 (Map 0 2093056 rw 34 (negsuc 0) 0) (Ok (Returned 140737352040448)) (Some (heap 257 260 rw ∷ plain 269 280 rw ∷ plain 34357606399 34357606912 rwx ∷ plain 34357606912 34359703562 rw ∷ plain 34359703562 34359704064 r ∷ plain 34359704064 34359705088 x ∷ plain 34359705088 34359705599 rw ∷ []))
-    ∷ step 0 (Remap 1064960 16384 8192 1 0) (Err 14) (Some (heap 257 260 rw ∷ plain 269 280 rw ∷ plain 34357606399 34357606912 rwx ∷ plain 34357606912 34359703562 rw ∷ plain 34359703562 34359704064 r ∷ plain 34359704064 34359705088 x ∷ plain 34359705088 34359705599 rw ∷ []))
-    ∷ step 0 (Break 1056776) (Ok (Returned 1056776)) (Some (heap 257 259 rw ∷ plain 269 280 rw ∷ plain 34357606399 34357606912 rwx ∷ plain 34357606912 34359703562 rw ∷ plain 34359703562 34359704064 r ∷ plain 34359704064 34359705088 x ∷ plain 34359705088 34359705599 rw ∷ []))
-    ∷ step 0 (Protect 1110016 20480 x) (Ok (Returned 0)) (Some (heap 257 259 rw ∷ plain 269 271 rw ∷ plain 271 276 x ∷ plain 276 280 rw ∷ plain 34357606399 34357606912 rwx ∷ plain 34357606912 34359703562 rw ∷ plain 34359703562 34359704064 r ∷ plain 34359704064 34359705088 x ∷ plain 34359705088 34359705599 rw ∷ []))
-    ∷ step 0 (Remap 1101824 4096 4096 3 1105920) (Ok (Returned 1105920)) (Some (heap 257 259 rw ∷ plain 270 271 rw ∷ plain 271 276 x ∷ plain 276 280 rw ∷ plain 34357606399 34357606912 rwx ∷ plain 34357606912 34359703562 rw ∷ plain 34359703562 34359704064 r ∷ plain 34359704064 34359705088 x ∷ plain 34359705088 34359705599 rw ∷ []))
-    ∷ step 0 (Map 0 4096 none 16418 (negsuc 0) 0) (Ok (Returned 140728755806208)) (Some (heap 257 259 rw ∷ plain 270 271 rw ∷ plain 271 276 x ∷ plain 276 280 rw ∷ plain 34357606398 34357606399 none ∷ plain 34357606399 34357606912 rwx ∷ plain 34357606912 34359703562 rw ∷ plain 34359703562 34359704064 r ∷ plain 34359704064 34359705088 x ∷ plain 34359705088 34359705599 rw ∷ []))
-    ∷ step 0 (Touch 258 Write) (Ok (Serves 257 259 rw false 0)) None
-    ∷ step 0 (Touch 272 Read) (Ok (Signal PkuErr)) None
-    ∷ step 0 (Protect 1069056 4096 rw) (Err 12) (Some (heap 257 259 rw ∷ plain 270 271 rw ∷ plain 271 276 x ∷ plain 276 280 rw ∷ plain 34357606398 34357606399 none ∷ plain 34357606399 34357606912 rwx ∷ plain 34357606912 34359703562 rw ∷ plain 34359703562 34359704064 r ∷ plain 34359704064 34359705088 x ∷ plain 34359705088 34359705599 rw ∷ []))
-    ∷ step 0 (Break 1064976) (Ok (Returned 1064976)) (Some (heap 257 261 rw ∷ plain 270 271 rw ∷ plain 271 276 x ∷ plain 276 280 rw ∷ plain 34357606398 34357606399 none ∷ plain 34357606399 34357606912 rwx ∷ plain 34357606912 34359703562 rw ∷ plain 34359703562 34359704064 r ∷ plain 34359704064 34359705088 x ∷ plain 34359705088 34359705599 rw ∷ []))
-    ∷ step 0 (Map 1089536 4096 rwx 50 (negsuc 0) 0) (Ok (Returned 1089536)) (Some (heap 257 261 rw ∷ plain 266 267 rwx ∷ plain 270 271 rw ∷ plain 271 276 x ∷ plain 276 280 rw ∷ plain 34357606398 34357606399 none ∷ plain 34357606399 34357606912 rwx ∷ plain 34357606912 34359703562 rw ∷ plain 34359703562 34359704064 r ∷ plain 34359704064 34359705088 x ∷ plain 34359705088 34359705599 rw ∷ []))
-    ∷ step 0 (Remap 1089536 4096 4096 7 1052672) (Ok (Returned 1052672)) (Some (heap 257 258 rwx ∷ heap 258 261 rw ∷ plain 266 267 rwx ∷ plain 270 271 rw ∷ plain 271 276 x ∷ plain 276 280 rw ∷ plain 34357606398 34357606399 none ∷ plain 34357606399 34357606912 rwx ∷ plain 34357606912 34359703562 rw ∷ plain 34359703562 34359704064 r ∷ plain 34359704064 34359705088 x ∷ plain 34359705088 34359705599 rw ∷ []))
-    ∷ step 0 (Protect 1110016 36864 x) (Ok (Returned 0)) (Some (heap 257 258 rwx ∷ heap 258 261 rw ∷ plain 266 267 rwx ∷ plain 270 271 rw ∷ plain 271 280 x ∷ plain 34357606398 34357606399 none ∷ plain 34357606399 34357606912 rwx ∷ plain 34357606912 34359703562 rw ∷ plain 34359703562 34359704064 r ∷ plain 34359704064 34359705088 x ∷ plain 34359705088 34359705599 rw ∷ []))
-    ∷ step 0 (Protect 1089536 4096 x) (Ok (Returned 0)) (Some (heap 257 258 rwx ∷ heap 258 261 rw ∷ plain 266 267 x ∷ plain 270 271 rw ∷ plain 271 280 x ∷ plain 34357606398 34357606399 none ∷ plain 34357606399 34357606912 rwx ∷ plain 34357606912 34359703562 rw ∷ plain 34359703562 34359704064 r ∷ plain 34359704064 34359705088 x ∷ plain 34359705088 34359705599 rw ∷ []))
-    ∷ step 0 (Remap 1064960 4096 16384 1 0) (Ok (Returned 1064960)) (Some (heap 257 258 rwx ∷ heap 258 264 rw ∷ plain 266 267 x ∷ plain 270 271 rw ∷ plain 271 280 x ∷ plain 34357606398 34357606399 none ∷ plain 34357606399 34357606912 rwx ∷ plain 34357606912 34359703562 rw ∷ plain 34359703562 34359704064 r ∷ plain 34359704064 34359705088 x ∷ plain 34359705088 34359705599 rw ∷ []))
-    ∷ step 0 (Map 140737345732608 8192 w 50 (negsuc 0) 0) (Ok (Returned 140737345732608)) (Some (heap 257 258 rwx ∷ heap 258 264 rw ∷ plain 266 267 x ∷ plain 270 271 rw ∷ plain 271 280 x ∷ plain 34357606398 34357606399 none ∷ plain 34357606399 34357606912 rwx ∷ plain 34357606912 34359703548 rw ∷ plain 34359703548 34359703550 w ∷ plain 34359703550 34359703562 rw ∷ plain 34359703562 34359704064 r ∷ plain 34359704064 34359705088 x ∷ plain 34359705088 34359705599 rw ∷ []))
-    ∷ step 0 (Protect 1138688 8192 w) (Ok (Returned 0)) (Some (heap 257 258 rwx ∷ heap 258 264 rw ∷ plain 266 267 x ∷ plain 270 271 rw ∷ plain 271 278 x ∷ plain 278 280 w ∷ plain 34357606398 34357606399 none ∷ plain 34357606399 34357606912 rwx ∷ plain 34357606912 34359703548 rw ∷ plain 34359703548 34359703550 w ∷ plain 34359703550 34359703562 rw ∷ plain 34359703562 34359704064 r ∷ plain 34359704064 34359705088 x ∷ plain 34359705088 34359705599 rw ∷ []))
-    ∷ step 0 (Remap 1110016 28672 28672 7 1081344) (Ok (Returned 1081344)) (Some (heap 257 258 rwx ∷ heap 258 264 rw ∷ plain 264 278 x ∷ plain 278 280 w ∷ plain 34357606398 34357606399 none ∷ plain 34357606399 34357606912 rwx ∷ plain 34357606912 34359703548 rw ∷ plain 34359703548 34359703550 w ∷ plain 34359703550 34359703562 rw ∷ plain 34359703562 34359704064 r ∷ plain 34359704064 34359705088 x ∷ plain 34359705088 34359705599 rw ∷ []))
-    ∷ step 0 (Protect 1052672 4096 rw) (Ok (Returned 0)) (Some (heap 257 264 rw ∷ plain 264 278 x ∷ plain 278 280 w ∷ plain 34357606398 34357606399 none ∷ plain 34357606399 34357606912 rwx ∷ plain 34357606912 34359703548 rw ∷ plain 34359703548 34359703550 w ∷ plain 34359703550 34359703562 rw ∷ plain 34359703562 34359704064 r ∷ plain 34359704064 34359705088 x ∷ plain 34359705088 34359705599 rw ∷ []))
-    ∷ step 0 (Protect 1110016 45056 rw) (Err 12) (Some (heap 257 264 rw ∷ plain 264 271 x ∷ plain 271 280 rw ∷ plain 34357606398 34357606399 none ∷ plain 34357606399 34357606912 rwx ∷ plain 34357606912 34359703548 rw ∷ plain 34359703548 34359703550 w ∷ plain 34359703550 34359703562 rw ∷ plain 34359703562 34359704064 r ∷ plain 34359704064 34359705088 x ∷ plain 34359705088 34359705599 rw ∷ []))
-    ∷ step 0 (Remap 1081344 28672 28672 3 1024000) (Ok (Returned 1024000)) (Some (plain 250 257 x ∷ heap 257 264 rw ∷ plain 271 280 rw ∷ plain 34357606398 34357606399 none ∷ plain 34357606399 34357606912 rwx ∷ plain 34357606912 34359703548 rw ∷ plain 34359703548 34359703550 w ∷ plain 34359703550 34359703562 rw ∷ plain 34359703562 34359704064 r ∷ plain 34359704064 34359705088 x ∷ plain 34359705088 34359705599 rw ∷ []))
+    kernel_step 0 (Map 0 4194304 w 34 (negsuc 0) 0) (Ok (Returned 140737347846144)) (Some (plain 34359704064 34359705088 w ∷ []))
+    ∷ kernel_step 0 (Map 0 8589934592 rw 34 (negsuc 0) 0) (Ok (Returned 140728757911552)) (Some (plain 34357606912 34359704064 rw ∷ plain 34359704064 34359705088 w ∷ []))
+    ∷ kernel_step 0 (Map 0 2101248 rwx 34 (negsuc 0) 0) (Ok (Returned 140728755810304)) (Some (plain 34357606399 34357606912 rwx ∷ plain 34357606912 34359704064 rw ∷ plain 34359704064 34359705088 w ∷ []))
+    ∷ kernel_step 0 (Remap 140737345744896 0 2101248 0 0) (Err 22) (Some (plain 34357606399 34357606912 rwx ∷ plain 34357606912 34359704064 rw ∷ plain 34359704064 34359705088 w ∷ []))
+    ∷ kernel_step 0 (Protect 140737347846144 4194304 x) (Ok (Returned 0)) (Some (plain 34357606399 34357606912 rwx ∷ plain 34357606912 34359704064 rw ∷ plain 34359704064 34359705088 x ∷ []))
+    ∷ kernel_step 0 (Touch 34359704011 Read) (Ok (Serves 34357606912 34359704064 rw false 0)) None
+    ∷ kernel_step 0 (Protect 140737345789952 2056192 r) (Ok (Returned 0)) (Some (plain 34357606399 34357606912 rwx ∷ plain 34357606912 34359703562 rw ∷ plain 34359703562 34359704064 r ∷ plain 34359704064 34359705088 x ∷ []))
+    ∷ kernel_step 0 (Remap 140737345744896 45056 45056 7 1101824) (Ok (Returned 1101824)) (Some (plain 269 280 rw ∷ plain 34357606399 34357606912 rwx ∷ plain 34357606912 34359703562 rw ∷ plain 34359703562 34359704064 r ∷ plain 34359704064 34359705088 x ∷ []))
+    ∷ kernel_step 0 (Break 1064960) (Ok (Returned 1064960)) (Some (heap 257 260 rw ∷ plain 269 280 rw ∷ plain 34357606399 34357606912 rwx ∷ plain 34357606912 34359703562 rw ∷ plain 34359703562 34359704064 r ∷ plain 34359704064 34359705088 x ∷ []))
+    ∷ kernel_step 0 (Map 0 2093056 rw 34 (negsuc 0) 0) (Ok (Returned 140737352040448)) (Some (heap 257 260 rw ∷ plain 269 280 rw ∷ plain 34357606399 34357606912 rwx ∷ plain 34357606912 34359703562 rw ∷ plain 34359703562 34359704064 r ∷ plain 34359704064 34359705088 x ∷ plain 34359705088 34359705599 rw ∷ []))
+    ∷ kernel_step 0 (Remap 1064960 16384 8192 1 0) (Err 14) (Some (heap 257 260 rw ∷ plain 269 280 rw ∷ plain 34357606399 34357606912 rwx ∷ plain 34357606912 34359703562 rw ∷ plain 34359703562 34359704064 r ∷ plain 34359704064 34359705088 x ∷ plain 34359705088 34359705599 rw ∷ []))
+    ∷ kernel_step 0 (Break 1056776) (Ok (Returned 1056776)) (Some (heap 257 259 rw ∷ plain 269 280 rw ∷ plain 34357606399 34357606912 rwx ∷ plain 34357606912 34359703562 rw ∷ plain 34359703562 34359704064 r ∷ plain 34359704064 34359705088 x ∷ plain 34359705088 34359705599 rw ∷ []))
+    ∷ kernel_step 0 (Protect 1110016 20480 x) (Ok (Returned 0)) (Some (heap 257 259 rw ∷ plain 269 271 rw ∷ plain 271 276 x ∷ plain 276 280 rw ∷ plain 34357606399 34357606912 rwx ∷ plain 34357606912 34359703562 rw ∷ plain 34359703562 34359704064 r ∷ plain 34359704064 34359705088 x ∷ plain 34359705088 34359705599 rw ∷ []))
+    ∷ kernel_step 0 (Remap 1101824 4096 4096 3 1105920) (Ok (Returned 1105920)) (Some (heap 257 259 rw ∷ plain 270 271 rw ∷ plain 271 276 x ∷ plain 276 280 rw ∷ plain 34357606399 34357606912 rwx ∷ plain 34357606912 34359703562 rw ∷ plain 34359703562 34359704064 r ∷ plain 34359704064 34359705088 x ∷ plain 34359705088 34359705599 rw ∷ []))
+    ∷ kernel_step 0 (Map 0 4096 none 16418 (negsuc 0) 0) (Ok (Returned 140728755806208)) (Some (heap 257 259 rw ∷ plain 270 271 rw ∷ plain 271 276 x ∷ plain 276 280 rw ∷ plain 34357606398 34357606399 none ∷ plain 34357606399 34357606912 rwx ∷ plain 34357606912 34359703562 rw ∷ plain 34359703562 34359704064 r ∷ plain 34359704064 34359705088 x ∷ plain 34359705088 34359705599 rw ∷ []))
+    ∷ kernel_step 0 (Touch 258 Write) (Ok (Serves 257 259 rw false 0)) None
+    ∷ kernel_step 0 (Touch 272 Read) (Ok (Signal PkuErr)) None
+    ∷ kernel_step 0 (Protect 1069056 4096 rw) (Err 12) (Some (heap 257 259 rw ∷ plain 270 271 rw ∷ plain 271 276 x ∷ plain 276 280 rw ∷ plain 34357606398 34357606399 none ∷ plain 34357606399 34357606912 rwx ∷ plain 34357606912 34359703562 rw ∷ plain 34359703562 34359704064 r ∷ plain 34359704064 34359705088 x ∷ plain 34359705088 34359705599 rw ∷ []))
+    ∷ kernel_step 0 (Break 1064976) (Ok (Returned 1064976)) (Some (heap 257 261 rw ∷ plain 270 271 rw ∷ plain 271 276 x ∷ plain 276 280 rw ∷ plain 34357606398 34357606399 none ∷ plain 34357606399 34357606912 rwx ∷ plain 34357606912 34359703562 rw ∷ plain 34359703562 34359704064 r ∷ plain 34359704064 34359705088 x ∷ plain 34359705088 34359705599 rw ∷ []))
+    ∷ kernel_step 0 (Map 1089536 4096 rwx 50 (negsuc 0) 0) (Ok (Returned 1089536)) (Some (heap 257 261 rw ∷ plain 266 267 rwx ∷ plain 270 271 rw ∷ plain 271 276 x ∷ plain 276 280 rw ∷ plain 34357606398 34357606399 none ∷ plain 34357606399 34357606912 rwx ∷ plain 34357606912 34359703562 rw ∷ plain 34359703562 34359704064 r ∷ plain 34359704064 34359705088 x ∷ plain 34359705088 34359705599 rw ∷ []))
+    ∷ kernel_step 0 (Remap 1089536 4096 4096 7 1052672) (Ok (Returned 1052672)) (Some (heap 257 258 rwx ∷ heap 258 261 rw ∷ plain 266 267 rwx ∷ plain 270 271 rw ∷ plain 271 276 x ∷ plain 276 280 rw ∷ plain 34357606398 34357606399 none ∷ plain 34357606399 34357606912 rwx ∷ plain 34357606912 34359703562 rw ∷ plain 34359703562 34359704064 r ∷ plain 34359704064 34359705088 x ∷ plain 34359705088 34359705599 rw ∷ []))
+    ∷ kernel_step 0 (Protect 1110016 36864 x) (Ok (Returned 0)) (Some (heap 257 258 rwx ∷ heap 258 261 rw ∷ plain 266 267 rwx ∷ plain 270 271 rw ∷ plain 271 280 x ∷ plain 34357606398 34357606399 none ∷ plain 34357606399 34357606912 rwx ∷ plain 34357606912 34359703562 rw ∷ plain 34359703562 34359704064 r ∷ plain 34359704064 34359705088 x ∷ plain 34359705088 34359705599 rw ∷ []))
+    ∷ kernel_step 0 (Protect 1089536 4096 x) (Ok (Returned 0)) (Some (heap 257 258 rwx ∷ heap 258 261 rw ∷ plain 266 267 x ∷ plain 270 271 rw ∷ plain 271 280 x ∷ plain 34357606398 34357606399 none ∷ plain 34357606399 34357606912 rwx ∷ plain 34357606912 34359703562 rw ∷ plain 34359703562 34359704064 r ∷ plain 34359704064 34359705088 x ∷ plain 34359705088 34359705599 rw ∷ []))
+    ∷ kernel_step 0 (Remap 1064960 4096 16384 1 0) (Ok (Returned 1064960)) (Some (heap 257 258 rwx ∷ heap 258 264 rw ∷ plain 266 267 x ∷ plain 270 271 rw ∷ plain 271 280 x ∷ plain 34357606398 34357606399 none ∷ plain 34357606399 34357606912 rwx ∷ plain 34357606912 34359703562 rw ∷ plain 34359703562 34359704064 r ∷ plain 34359704064 34359705088 x ∷ plain 34359705088 34359705599 rw ∷ []))
+    ∷ kernel_step 0 (Map 140737345732608 8192 w 50 (negsuc 0) 0) (Ok (Returned 140737345732608)) (Some (heap 257 258 rwx ∷ heap 258 264 rw ∷ plain 266 267 x ∷ plain 270 271 rw ∷ plain 271 280 x ∷ plain 34357606398 34357606399 none ∷ plain 34357606399 34357606912 rwx ∷ plain 34357606912 34359703548 rw ∷ plain 34359703548 34359703550 w ∷ plain 34359703550 34359703562 rw ∷ plain 34359703562 34359704064 r ∷ plain 34359704064 34359705088 x ∷ plain 34359705088 34359705599 rw ∷ []))
+    ∷ kernel_step 0 (Protect 1138688 8192 w) (Ok (Returned 0)) (Some (heap 257 258 rwx ∷ heap 258 264 rw ∷ plain 266 267 x ∷ plain 270 271 rw ∷ plain 271 278 x ∷ plain 278 280 w ∷ plain 34357606398 34357606399 none ∷ plain 34357606399 34357606912 rwx ∷ plain 34357606912 34359703548 rw ∷ plain 34359703548 34359703550 w ∷ plain 34359703550 34359703562 rw ∷ plain 34359703562 34359704064 r ∷ plain 34359704064 34359705088 x ∷ plain 34359705088 34359705599 rw ∷ []))
+    ∷ kernel_step 0 (Remap 1110016 28672 28672 7 1081344) (Ok (Returned 1081344)) (Some (heap 257 258 rwx ∷ heap 258 264 rw ∷ plain 264 278 x ∷ plain 278 280 w ∷ plain 34357606398 34357606399 none ∷ plain 34357606399 34357606912 rwx ∷ plain 34357606912 34359703548 rw ∷ plain 34359703548 34359703550 w ∷ plain 34359703550 34359703562 rw ∷ plain 34359703562 34359704064 r ∷ plain 34359704064 34359705088 x ∷ plain 34359705088 34359705599 rw ∷ []))
+    ∷ kernel_step 0 (Protect 1052672 4096 rw) (Ok (Returned 0)) (Some (heap 257 264 rw ∷ plain 264 278 x ∷ plain 278 280 w ∷ plain 34357606398 34357606399 none ∷ plain 34357606399 34357606912 rwx ∷ plain 34357606912 34359703548 rw ∷ plain 34359703548 34359703550 w ∷ plain 34359703550 34359703562 rw ∷ plain 34359703562 34359704064 r ∷ plain 34359704064 34359705088 x ∷ plain 34359705088 34359705599 rw ∷ []))
+    ∷ kernel_step 0 (Protect 1110016 45056 rw) (Err 12) (Some (heap 257 264 rw ∷ plain 264 271 x ∷ plain 271 280 rw ∷ plain 34357606398 34357606399 none ∷ plain 34357606399 34357606912 rwx ∷ plain 34357606912 34359703548 rw ∷ plain 34359703548 34359703550 w ∷ plain 34359703550 34359703562 rw ∷ plain 34359703562 34359704064 r ∷ plain 34359704064 34359705088 x ∷ plain 34359705088 34359705599 rw ∷ []))
+    ∷ kernel_step 0 (Remap 1081344 28672 28672 3 1024000) (Ok (Returned 1024000)) (Some (plain 250 257 x ∷ heap 257 264 rw ∷ plain 271 280 rw ∷ plain 34357606398 34357606399 none ∷ plain 34357606399 34357606912 rwx ∷ plain 34357606912 34359703548 rw ∷ plain 34359703548 34359703550 w ∷ plain 34359703550 34359703562 rw ∷ plain 34359703562 34359704064 r ∷ plain 34359704064 34359705088 x ∷ plain 34359705088 34359705599 rw ∷ []))
     ∷ []
 
 -- written_961: the kernel
@@ -1051,36 +1061,36 @@ written_961_on = record { rules = linux_6_18; machine = record { lowest_built = 
 -- written_961: its answers
 abbrev pub written_961 : List Step
 written_961 =
-    step 0 (Map 1056768 8192 rw 50 (negsuc 0) 0) (Ok (Returned 1056768)) (Some (plain 258 260 rw ∷ []))
-    ∷ step 0 (Map 1060864 16384 rw 18 (pos 3) 12288) (Ok (Returned 1060864)) (Some (plain 258 259 rw ∷ filed 259 263 rw false 12288 1 ∷ []))
-    ∷ step 0 (Touch 260 Write) (Ok (Serves 259 263 rw false 4)) None
-    ∷ step 0 (Remap 1089536 8192 8192 3 1089536) (Err 22) (Some (plain 258 259 rw ∷ filed 259 263 rw false 12288 1 ∷ []))
-    ∷ step 0 (Remap 1089536 8192 8192 3 1089536) (Err 22) (Some (plain 258 259 rw ∷ filed 259 263 rw false 12288 1 ∷ []))
-    ∷ step 0 (Remap 1056768 4096 4096 7 1638400) (Ok (Returned 1638400)) (Some (plain 258 259 rw ∷ filed 259 263 rw false 12288 1 ∷ plain 400 401 rw ∷ []))
-    ∷ step 0 (Touch 258 Write) (Ok (Serves 258 259 rw false 0)) None
-    ∷ step 0 (Touch 400 Write) (Ok (Serves 400 401 rw false 0)) None
-    ∷ step 0 (Remap 1069056 12288 12288 3 1638400) (Ok (Returned 1638400)) (Some (plain 258 259 rw ∷ filed 259 261 rw false 12288 1 ∷ filed 400 402 rw false 20480 1 ∷ []))
-    ∷ step 0 (Protect 1073152 4096 rw) (Err 12) (Some (plain 258 259 rw ∷ filed 259 261 rw false 12288 1 ∷ filed 400 402 rw false 20480 1 ∷ []))
-    ∷ step 0 (Touch 258 Read) (Ok (Serves 258 259 rw false 0)) None
-    ∷ step 0 (Map 1052672 4096 rw 131122 (negsuc 0) 0) (Ok (Returned 1052672)) (Some (plain 257 258 rw ∷ plain 258 259 rw ∷ filed 259 261 rw false 12288 1 ∷ filed 400 402 rw false 20480 1 ∷ []))
-    ∷ step 0 (Touch 257 Write) (Ok (Serves 257 258 rw false 0)) None
-    ∷ step 0 (Map 1052672 4096 rw 50 (negsuc 0) 0) (Ok (Returned 1052672)) (Some (plain 257 259 rw ∷ filed 259 261 rw false 12288 1 ∷ filed 400 402 rw false 20480 1 ∷ []))
-    ∷ step 0 (Touch 258 Read) (Ok (Serves 257 259 rw false 0)) None
-    ∷ step 0 (Touch 261 Read) (Ok (Signal MapErr)) None
-    ∷ step 0 (Touch 260 Write) (Ok (Serves 259 261 rw false 4)) None
-    ∷ step 0 (Touch 257 Write) (Ok (Serves 257 259 rw false 0)) None
-    ∷ step 0 (Touch 260 Write) (Ok (Serves 259 261 rw false 4)) None
-    ∷ step 0 (Touch 261 Write) (Ok (Signal MapErr)) None
-    ∷ step 0 (Touch 262 Read) (Ok (Signal MapErr)) None
-    ∷ step 0 (Unmap 1052672 12288) (Ok (Returned 0)) (Some (filed 260 261 rw false 16384 1 ∷ filed 400 402 rw false 20480 1 ∷ []))
-    ∷ step 0 (Map 1081344 4096 rw 18 (pos 3) 32768) (Ok (Returned 1081344)) (Some (filed 260 261 rw false 16384 1 ∷ filed 264 265 rw false 32768 1 ∷ filed 400 402 rw false 20480 1 ∷ []))
-    ∷ step 0 (Touch 262 Write) (Ok (Signal MapErr)) None
-    ∷ step 0 (Touch 261 Read) (Ok (Signal MapErr)) None
-    ∷ step 0 (Remap 1638400 12288 12288 3 1069056) (Ok (Returned 1069056)) (Some (filed 260 263 rw false 16384 1 ∷ filed 264 265 rw false 32768 1 ∷ []))
-    ∷ step 0 (Touch 264 Write) (Ok (Signal BusErr)) None
-    ∷ step 0 (Remap 1064960 8192 8192 3 1052672) (Ok (Returned 1052672)) (Some (filed 257 259 rw false 16384 1 ∷ filed 262 263 rw false 24576 1 ∷ filed 264 265 rw false 32768 1 ∷ []))
-    ∷ step 0 (Touch 264 Write) (Ok (Signal BusErr)) None
-    ∷ step 0 (Map 1064960 12288 rw 18 (pos 3) 16384) (Ok (Returned 1064960)) (Some (filed 257 259 rw false 16384 1 ∷ filed 260 263 rw false 16384 1 ∷ filed 264 265 rw false 32768 1 ∷ []))
+    kernel_step 0 (Map 1056768 8192 rw 50 (negsuc 0) 0) (Ok (Returned 1056768)) (Some (plain 258 260 rw ∷ []))
+    ∷ kernel_step 0 (Map 1060864 16384 rw 18 (pos 3) 12288) (Ok (Returned 1060864)) (Some (plain 258 259 rw ∷ filed 259 263 rw false 12288 1 ∷ []))
+    ∷ kernel_step 0 (Touch 260 Write) (Ok (Serves 259 263 rw false 4)) None
+    ∷ kernel_step 0 (Remap 1089536 8192 8192 3 1089536) (Err 22) (Some (plain 258 259 rw ∷ filed 259 263 rw false 12288 1 ∷ []))
+    ∷ kernel_step 0 (Remap 1089536 8192 8192 3 1089536) (Err 22) (Some (plain 258 259 rw ∷ filed 259 263 rw false 12288 1 ∷ []))
+    ∷ kernel_step 0 (Remap 1056768 4096 4096 7 1638400) (Ok (Returned 1638400)) (Some (plain 258 259 rw ∷ filed 259 263 rw false 12288 1 ∷ plain 400 401 rw ∷ []))
+    ∷ kernel_step 0 (Touch 258 Write) (Ok (Serves 258 259 rw false 0)) None
+    ∷ kernel_step 0 (Touch 400 Write) (Ok (Serves 400 401 rw false 0)) None
+    ∷ kernel_step 0 (Remap 1069056 12288 12288 3 1638400) (Ok (Returned 1638400)) (Some (plain 258 259 rw ∷ filed 259 261 rw false 12288 1 ∷ filed 400 402 rw false 20480 1 ∷ []))
+    ∷ kernel_step 0 (Protect 1073152 4096 rw) (Err 12) (Some (plain 258 259 rw ∷ filed 259 261 rw false 12288 1 ∷ filed 400 402 rw false 20480 1 ∷ []))
+    ∷ kernel_step 0 (Touch 258 Read) (Ok (Serves 258 259 rw false 0)) None
+    ∷ kernel_step 0 (Map 1052672 4096 rw 131122 (negsuc 0) 0) (Ok (Returned 1052672)) (Some (plain 257 258 rw ∷ plain 258 259 rw ∷ filed 259 261 rw false 12288 1 ∷ filed 400 402 rw false 20480 1 ∷ []))
+    ∷ kernel_step 0 (Touch 257 Write) (Ok (Serves 257 258 rw false 0)) None
+    ∷ kernel_step 0 (Map 1052672 4096 rw 50 (negsuc 0) 0) (Ok (Returned 1052672)) (Some (plain 257 259 rw ∷ filed 259 261 rw false 12288 1 ∷ filed 400 402 rw false 20480 1 ∷ []))
+    ∷ kernel_step 0 (Touch 258 Read) (Ok (Serves 257 259 rw false 0)) None
+    ∷ kernel_step 0 (Touch 261 Read) (Ok (Signal MapErr)) None
+    ∷ kernel_step 0 (Touch 260 Write) (Ok (Serves 259 261 rw false 4)) None
+    ∷ kernel_step 0 (Touch 257 Write) (Ok (Serves 257 259 rw false 0)) None
+    ∷ kernel_step 0 (Touch 260 Write) (Ok (Serves 259 261 rw false 4)) None
+    ∷ kernel_step 0 (Touch 261 Write) (Ok (Signal MapErr)) None
+    ∷ kernel_step 0 (Touch 262 Read) (Ok (Signal MapErr)) None
+    ∷ kernel_step 0 (Unmap 1052672 12288) (Ok (Returned 0)) (Some (filed 260 261 rw false 16384 1 ∷ filed 400 402 rw false 20480 1 ∷ []))
+    ∷ kernel_step 0 (Map 1081344 4096 rw 18 (pos 3) 32768) (Ok (Returned 1081344)) (Some (filed 260 261 rw false 16384 1 ∷ filed 264 265 rw false 32768 1 ∷ filed 400 402 rw false 20480 1 ∷ []))
+    ∷ kernel_step 0 (Touch 262 Write) (Ok (Signal MapErr)) None
+    ∷ kernel_step 0 (Touch 261 Read) (Ok (Signal MapErr)) None
+    ∷ kernel_step 0 (Remap 1638400 12288 12288 3 1069056) (Ok (Returned 1069056)) (Some (filed 260 263 rw false 16384 1 ∷ filed 264 265 rw false 32768 1 ∷ []))
+    ∷ kernel_step 0 (Touch 264 Write) (Ok (Signal BusErr)) None
+    ∷ kernel_step 0 (Remap 1064960 8192 8192 3 1052672) (Ok (Returned 1052672)) (Some (filed 257 259 rw false 16384 1 ∷ filed 262 263 rw false 24576 1 ∷ filed 264 265 rw false 32768 1 ∷ []))
+    ∷ kernel_step 0 (Touch 264 Write) (Ok (Signal BusErr)) None
+    ∷ kernel_step 0 (Map 1064960 12288 rw 18 (pos 3) 16384) (Ok (Returned 1064960)) (Some (filed 257 259 rw false 16384 1 ∷ filed 260 263 rw false 16384 1 ∷ filed 264 265 rw false 32768 1 ∷ []))
     ∷ []
 
 -- written_1001: the kernel
@@ -1090,36 +1100,36 @@ written_1001_on = record { rules = linux_6_18; machine = record { lowest_built =
 -- written_1001: its answers
 abbrev pub written_1001 : List Step
 written_1001 =
-    step 0 (Map 1060864 8192 rw 50 (negsuc 0) 0) (Ok (Returned 1060864)) (Some (plain 259 261 rw ∷ []))
-    ∷ step 0 (Map 1048576 8192 rw 50 (negsuc 0) 0) (Ok (Returned 1048576)) (Some (plain 256 258 rw ∷ plain 259 261 rw ∷ []))
-    ∷ step 0 (Touch 260 Write) (Ok (Serves 259 261 rw false 0)) None
-    ∷ step 0 (Protect 1048576 8192 rw) (Ok (Returned 0)) (Some (plain 256 258 rw ∷ plain 259 261 rw ∷ []))
-    ∷ step 0 (Touch 260 Write) (Ok (Serves 259 261 rw false 0)) None
-    ∷ step 0 (Touch 260 Write) (Ok (Serves 259 261 rw false 0)) None
-    ∷ step 0 (Map 1052672 8192 rwx 50 (negsuc 0) 0) (Ok (Returned 1052672)) (Some (plain 256 257 rw ∷ plain 257 259 rwx ∷ plain 259 261 rw ∷ []))
-    ∷ step 0 (Remap 1048576 4096 4096 3 1609728) (Ok (Returned 1609728)) (Some (plain 257 259 rwx ∷ plain 259 261 rw ∷ plain 393 394 rw ∷ []))
-    ∷ step 0 (Map 1048576 4096 rwx 50 (negsuc 0) 0) (Ok (Returned 1048576)) (Some (plain 256 259 rwx ∷ plain 259 261 rw ∷ plain 393 394 rw ∷ []))
-    ∷ step 0 (Map 1056768 8192 rwx 50 (negsuc 0) 0) (Ok (Returned 1056768)) (Some (plain 256 260 rwx ∷ plain 260 261 rw ∷ plain 393 394 rw ∷ []))
-    ∷ step 0 (Touch 258 Write) (Ok (Serves 256 260 rwx false 0)) None
-    ∷ step 0 (Touch 257 Write) (Ok (Serves 256 260 rwx false 0)) None
-    ∷ step 0 (Protect 1064960 8192 rw) (Err 12) (Some (plain 256 260 rwx ∷ plain 260 261 rw ∷ plain 393 394 rw ∷ []))
-    ∷ step 0 (Touch 258 Write) (Ok (Serves 256 260 rwx false 0)) None
-    ∷ step 0 (Map 1052672 4096 rw 50 (negsuc 0) 0) (Ok (Returned 1052672)) (Some (plain 256 257 rwx ∷ plain 257 258 rw ∷ plain 258 260 rwx ∷ plain 260 261 rw ∷ plain 393 394 rw ∷ []))
-    ∷ step 0 (Protect 1064960 4096 rw) (Ok (Returned 0)) (Some (plain 256 257 rwx ∷ plain 257 258 rw ∷ plain 258 260 rwx ∷ plain 260 261 rw ∷ plain 393 394 rw ∷ []))
-    ∷ step 0 (Touch 258 Write) (Ok (Serves 258 260 rwx false 0)) None
-    ∷ step 0 (Touch 260 Read) (Ok (Serves 260 261 rw false 0)) None
-    ∷ step 0 (Remap 1048576 12288 12288 7 1036288) (Ok (Returned 1036288)) (Some (plain 253 254 rwx ∷ plain 254 255 rw ∷ plain 255 256 rwx ∷ plain 256 257 rwx ∷ plain 257 258 rw ∷ plain 258 260 rwx ∷ plain 260 261 rw ∷ plain 393 394 rw ∷ []))
-    ∷ step 0 (Protect 1036288 4096 r) (Ok (Returned 0)) (Some (plain 253 254 r ∷ plain 254 255 rw ∷ plain 255 256 rwx ∷ plain 256 257 rwx ∷ plain 257 258 rw ∷ plain 258 260 rwx ∷ plain 260 261 rw ∷ plain 393 394 rw ∷ []))
-    ∷ step 0 (Map 1048576 12288 r 50 (negsuc 0) 0) (Ok (Returned 1048576)) (Some (plain 253 254 r ∷ plain 254 255 rw ∷ plain 255 256 rwx ∷ plain 256 259 r ∷ plain 259 260 rwx ∷ plain 260 261 rw ∷ plain 393 394 rw ∷ []))
-    ∷ step 0 (Protect 1048576 4096 rw) (Ok (Returned 0)) (Some (plain 253 254 r ∷ plain 254 255 rw ∷ plain 255 256 rwx ∷ plain 256 257 rw ∷ plain 257 259 r ∷ plain 259 260 rwx ∷ plain 260 261 rw ∷ plain 393 394 rw ∷ []))
-    ∷ step 0 (Protect 1052672 16384 rw) (Ok (Returned 0)) (Some (plain 253 254 r ∷ plain 254 255 rw ∷ plain 255 256 rwx ∷ plain 256 261 rw ∷ plain 393 394 rw ∷ []))
-    ∷ step 0 (Map 1056768 12288 rwx 50 (negsuc 0) 0) (Ok (Returned 1056768)) (Some (plain 253 254 r ∷ plain 254 255 rw ∷ plain 255 256 rwx ∷ plain 256 258 rw ∷ plain 258 261 rwx ∷ plain 393 394 rw ∷ []))
-    ∷ step 0 (Remap 1609728 4096 4096 3 1048576) (Ok (Returned 1048576)) (Some (plain 253 254 r ∷ plain 254 255 rw ∷ plain 255 256 rwx ∷ plain 256 258 rw ∷ plain 258 261 rwx ∷ []))
-    ∷ step 0 (Touch 254 Write) (Ok (Serves 254 255 rw false 0)) None
-    ∷ step 0 (Remap 1064960 8192 8192 3 1605632) (Ok (Returned 1605632)) (Some (plain 253 254 r ∷ plain 254 255 rw ∷ plain 255 256 rwx ∷ plain 256 258 rw ∷ plain 258 260 rwx ∷ plain 392 393 rwx ∷ []))
-    ∷ step 0 (Map 1064960 12288 r 50 (negsuc 0) 0) (Ok (Returned 1064960)) (Some (plain 253 254 r ∷ plain 254 255 rw ∷ plain 255 256 rwx ∷ plain 256 258 rw ∷ plain 258 260 rwx ∷ plain 260 263 r ∷ plain 392 393 rwx ∷ []))
-    ∷ step 0 (Remap 1040384 4096 4096 3 1064960) (Ok (Returned 1064960)) (Some (plain 253 254 r ∷ plain 255 256 rwx ∷ plain 256 258 rw ∷ plain 258 260 rwx ∷ plain 260 261 rw ∷ plain 261 263 r ∷ plain 392 393 rwx ∷ []))
-    ∷ step 0 (Touch 260 Write) (Ok (Serves 260 261 rw false 0)) (Some (plain 253 254 r ∷ plain 255 256 rwx ∷ plain 256 258 rw ∷ plain 258 260 rwx ∷ plain 260 261 rw ∷ plain 261 263 r ∷ plain 392 393 rwx ∷ []))
+    kernel_step 0 (Map 1060864 8192 rw 50 (negsuc 0) 0) (Ok (Returned 1060864)) (Some (plain 259 261 rw ∷ []))
+    ∷ kernel_step 0 (Map 1048576 8192 rw 50 (negsuc 0) 0) (Ok (Returned 1048576)) (Some (plain 256 258 rw ∷ plain 259 261 rw ∷ []))
+    ∷ kernel_step 0 (Touch 260 Write) (Ok (Serves 259 261 rw false 0)) None
+    ∷ kernel_step 0 (Protect 1048576 8192 rw) (Ok (Returned 0)) (Some (plain 256 258 rw ∷ plain 259 261 rw ∷ []))
+    ∷ kernel_step 0 (Touch 260 Write) (Ok (Serves 259 261 rw false 0)) None
+    ∷ kernel_step 0 (Touch 260 Write) (Ok (Serves 259 261 rw false 0)) None
+    ∷ kernel_step 0 (Map 1052672 8192 rwx 50 (negsuc 0) 0) (Ok (Returned 1052672)) (Some (plain 256 257 rw ∷ plain 257 259 rwx ∷ plain 259 261 rw ∷ []))
+    ∷ kernel_step 0 (Remap 1048576 4096 4096 3 1609728) (Ok (Returned 1609728)) (Some (plain 257 259 rwx ∷ plain 259 261 rw ∷ plain 393 394 rw ∷ []))
+    ∷ kernel_step 0 (Map 1048576 4096 rwx 50 (negsuc 0) 0) (Ok (Returned 1048576)) (Some (plain 256 259 rwx ∷ plain 259 261 rw ∷ plain 393 394 rw ∷ []))
+    ∷ kernel_step 0 (Map 1056768 8192 rwx 50 (negsuc 0) 0) (Ok (Returned 1056768)) (Some (plain 256 260 rwx ∷ plain 260 261 rw ∷ plain 393 394 rw ∷ []))
+    ∷ kernel_step 0 (Touch 258 Write) (Ok (Serves 256 260 rwx false 0)) None
+    ∷ kernel_step 0 (Touch 257 Write) (Ok (Serves 256 260 rwx false 0)) None
+    ∷ kernel_step 0 (Protect 1064960 8192 rw) (Err 12) (Some (plain 256 260 rwx ∷ plain 260 261 rw ∷ plain 393 394 rw ∷ []))
+    ∷ kernel_step 0 (Touch 258 Write) (Ok (Serves 256 260 rwx false 0)) None
+    ∷ kernel_step 0 (Map 1052672 4096 rw 50 (negsuc 0) 0) (Ok (Returned 1052672)) (Some (plain 256 257 rwx ∷ plain 257 258 rw ∷ plain 258 260 rwx ∷ plain 260 261 rw ∷ plain 393 394 rw ∷ []))
+    ∷ kernel_step 0 (Protect 1064960 4096 rw) (Ok (Returned 0)) (Some (plain 256 257 rwx ∷ plain 257 258 rw ∷ plain 258 260 rwx ∷ plain 260 261 rw ∷ plain 393 394 rw ∷ []))
+    ∷ kernel_step 0 (Touch 258 Write) (Ok (Serves 258 260 rwx false 0)) None
+    ∷ kernel_step 0 (Touch 260 Read) (Ok (Serves 260 261 rw false 0)) None
+    ∷ kernel_step 0 (Remap 1048576 12288 12288 7 1036288) (Ok (Returned 1036288)) (Some (plain 253 254 rwx ∷ plain 254 255 rw ∷ plain 255 256 rwx ∷ plain 256 257 rwx ∷ plain 257 258 rw ∷ plain 258 260 rwx ∷ plain 260 261 rw ∷ plain 393 394 rw ∷ []))
+    ∷ kernel_step 0 (Protect 1036288 4096 r) (Ok (Returned 0)) (Some (plain 253 254 r ∷ plain 254 255 rw ∷ plain 255 256 rwx ∷ plain 256 257 rwx ∷ plain 257 258 rw ∷ plain 258 260 rwx ∷ plain 260 261 rw ∷ plain 393 394 rw ∷ []))
+    ∷ kernel_step 0 (Map 1048576 12288 r 50 (negsuc 0) 0) (Ok (Returned 1048576)) (Some (plain 253 254 r ∷ plain 254 255 rw ∷ plain 255 256 rwx ∷ plain 256 259 r ∷ plain 259 260 rwx ∷ plain 260 261 rw ∷ plain 393 394 rw ∷ []))
+    ∷ kernel_step 0 (Protect 1048576 4096 rw) (Ok (Returned 0)) (Some (plain 253 254 r ∷ plain 254 255 rw ∷ plain 255 256 rwx ∷ plain 256 257 rw ∷ plain 257 259 r ∷ plain 259 260 rwx ∷ plain 260 261 rw ∷ plain 393 394 rw ∷ []))
+    ∷ kernel_step 0 (Protect 1052672 16384 rw) (Ok (Returned 0)) (Some (plain 253 254 r ∷ plain 254 255 rw ∷ plain 255 256 rwx ∷ plain 256 261 rw ∷ plain 393 394 rw ∷ []))
+    ∷ kernel_step 0 (Map 1056768 12288 rwx 50 (negsuc 0) 0) (Ok (Returned 1056768)) (Some (plain 253 254 r ∷ plain 254 255 rw ∷ plain 255 256 rwx ∷ plain 256 258 rw ∷ plain 258 261 rwx ∷ plain 393 394 rw ∷ []))
+    ∷ kernel_step 0 (Remap 1609728 4096 4096 3 1048576) (Ok (Returned 1048576)) (Some (plain 253 254 r ∷ plain 254 255 rw ∷ plain 255 256 rwx ∷ plain 256 258 rw ∷ plain 258 261 rwx ∷ []))
+    ∷ kernel_step 0 (Touch 254 Write) (Ok (Serves 254 255 rw false 0)) None
+    ∷ kernel_step 0 (Remap 1064960 8192 8192 3 1605632) (Ok (Returned 1605632)) (Some (plain 253 254 r ∷ plain 254 255 rw ∷ plain 255 256 rwx ∷ plain 256 258 rw ∷ plain 258 260 rwx ∷ plain 392 393 rwx ∷ []))
+    ∷ kernel_step 0 (Map 1064960 12288 r 50 (negsuc 0) 0) (Ok (Returned 1064960)) (Some (plain 253 254 r ∷ plain 254 255 rw ∷ plain 255 256 rwx ∷ plain 256 258 rw ∷ plain 258 260 rwx ∷ plain 260 263 r ∷ plain 392 393 rwx ∷ []))
+    ∷ kernel_step 0 (Remap 1040384 4096 4096 3 1064960) (Ok (Returned 1064960)) (Some (plain 253 254 r ∷ plain 255 256 rwx ∷ plain 256 258 rw ∷ plain 258 260 rwx ∷ plain 260 261 rw ∷ plain 261 263 r ∷ plain 392 393 rwx ∷ []))
+    ∷ kernel_step 0 (Touch 260 Write) (Ok (Serves 260 261 rw false 0)) (Some (plain 253 254 r ∷ plain 255 256 rwx ∷ plain 256 258 rw ∷ plain 258 260 rwx ∷ plain 260 261 rw ∷ plain 261 263 r ∷ plain 392 393 rwx ∷ []))
     ∷ []
 
 -- hard_1027: the kernel
@@ -1129,36 +1139,36 @@ hard_1027_on = record { rules = linux_6_18; machine = record { lowest_built = 16
 -- hard_1027: its answers
 abbrev pub hard_1027 : List Step
 hard_1027 =
-    step 0 (Map 1077248 16384 rw 306 (negsuc 0) 0) (Ok (Returned 1077248)) (Some (plain 263 267 rw ∷ []))
-    ∷ step 0 (Map 1093632 12288 r 32818 (negsuc 0) 0) (Ok (Returned 1093632)) (Some (plain 263 267 rw ∷ plain 267 270 r ∷ []))
-    ∷ step 0 (Break 1073144) (Ok (Returned 1069056)) (Some (plain 263 267 rw ∷ plain 267 270 r ∷ []))
-    ∷ step 0 (Touch 264 Write) (Ok (Serves 263 267 rw false 0)) None
-    ∷ step 0 (Protect 1077248 4096 rw) (Ok (Returned 0)) (Some (plain 263 267 rw ∷ plain 267 270 r ∷ []))
-    ∷ step 0 (Remap 1093632 12288 24576 1 0) (Ok (Returned 1093632)) (Some (plain 263 267 rw ∷ plain 267 273 r ∷ []))
-    ∷ step 0 (Map 1069056 8192 rw 50 (negsuc 0) 0) (Ok (Returned 1069056)) (Some (plain 261 263 rw ∷ plain 263 267 rw ∷ plain 267 273 r ∷ []))
-    ∷ step 0 (Touch 261 Write) (Ok (Serves 261 263 rw false 0)) None
-    ∷ step 0 (Unmap 1077248 8192) (Ok (Returned 0)) (Some (plain 261 263 rw ∷ plain 265 267 rw ∷ plain 267 273 r ∷ []))
-    ∷ step 0 (Map 0 4096 r 33 (negsuc 0) 0) (Ok (Returned 140737354129408)) (Some (plain 261 263 rw ∷ plain 265 267 rw ∷ plain 267 273 r ∷ filed 34359705598 34359705599 r true 0 2 ∷ []))
-    ∷ step 0 (Map 1048576 16384 rwx 50 (negsuc 0) 0) (Ok (Returned 1048576)) (Some (plain 256 260 rwx ∷ plain 261 263 rw ∷ plain 265 267 rw ∷ plain 267 273 r ∷ filed 34359705598 34359705599 r true 0 2 ∷ []))
-    ∷ step 0 (Touch 256 Read) (Ok (Serves 256 260 rwx false 0)) None
-    ∷ step 0 (Touch 263 Read) (Ok (Signal MapErr)) None
-    ∷ step 0 (Touch 272 Read) (Ok (Serves 267 273 r false 0)) None
-    ∷ step 0 (Seal 1110016 8192 0) (Ok (Returned 0)) (Some (plain 256 260 rwx ∷ plain 261 263 rw ∷ plain 265 267 rw ∷ plain 267 271 r ∷ plain 271 273 r ∷ filed 34359705598 34359705599 r true 0 2 ∷ []))
-    ∷ step 0 (Touch 205 Read) (Ok (Signal MapErr)) None
-    ∷ step 0 (Map 1064960 4096 r 49 (negsuc 0) 0) (Ok (Returned 1064960)) (Some (plain 256 260 rwx ∷ filed 260 261 r true 0 3 ∷ plain 261 263 rw ∷ plain 265 267 rw ∷ plain 267 271 r ∷ plain 271 273 r ∷ filed 34359705598 34359705599 r true 0 2 ∷ []))
-    ∷ step 0 (Touch 272 Write) (Ok (Signal AccErr)) None
-    ∷ step 0 (Map 1048576 12288 r 306 (negsuc 0) 0) (Ok (Returned 1048576)) (Some (plain 256 259 r ∷ plain 259 260 rwx ∷ filed 260 261 r true 0 3 ∷ plain 261 263 rw ∷ plain 265 267 rw ∷ plain 267 271 r ∷ plain 271 273 r ∷ filed 34359705598 34359705599 r true 0 2 ∷ []))
-    ∷ step 0 (Break 1081344) (Ok (Returned 1069056)) (Some (plain 256 259 r ∷ plain 259 260 rwx ∷ filed 260 261 r true 0 3 ∷ plain 261 263 rw ∷ plain 265 267 rw ∷ plain 267 271 r ∷ plain 271 273 r ∷ filed 34359705598 34359705599 r true 0 2 ∷ []))
-    ∷ step 0 (Remap 1097728 12288 12288 7 1085440) (Ok (Returned 1085440)) (Some (plain 256 259 r ∷ plain 259 260 rwx ∷ filed 260 261 r true 0 3 ∷ plain 261 263 rw ∷ plain 265 271 r ∷ plain 271 273 r ∷ filed 34359705598 34359705599 r true 0 2 ∷ []))
-    ∷ step 0 (Protect 1114112 4096 w) (Err 1) (Some (plain 256 259 r ∷ plain 259 260 rwx ∷ filed 260 261 r true 0 3 ∷ plain 261 263 rw ∷ plain 265 271 r ∷ plain 271 273 r ∷ filed 34359705598 34359705599 r true 0 2 ∷ []))
-    ∷ step 0 (Touch 251 Write) (Ok (Signal AccErr)) None
-    ∷ step 0 (Protect 1069056 4096 rw) (Ok (Returned 0)) (Some (plain 251 259 r ∷ plain 259 260 rwx ∷ filed 260 261 r true 0 3 ∷ plain 261 263 rw ∷ plain 265 271 r ∷ plain 271 273 r ∷ filed 34359705598 34359705599 r true 0 2 ∷ []))
-    ∷ step 0 (Map 1069056 8192 rw 32818 (negsuc 0) 0) (Ok (Returned 1069056)) (Some (plain 251 259 r ∷ plain 259 260 rwx ∷ filed 260 261 r true 0 3 ∷ plain 261 263 rw ∷ plain 265 271 r ∷ plain 271 273 r ∷ filed 34359705598 34359705599 r true 0 2 ∷ []))
-    ∷ step 0 (Map 1069056 16384 rw 50 (negsuc 0) 0) (Ok (Returned 1069056)) (Some (plain 251 259 r ∷ plain 259 260 rwx ∷ filed 260 261 r true 0 3 ∷ plain 261 265 rw ∷ plain 265 271 r ∷ plain 271 273 r ∷ filed 34359705598 34359705599 r true 0 2 ∷ []))
-    ∷ step 0 (Map 1114112 4096 rwx 34 (negsuc 0) 0) (Ok (Returned 140737354125312)) (Some (plain 251 259 r ∷ plain 259 260 rwx ∷ filed 260 261 r true 0 3 ∷ plain 261 265 rw ∷ plain 265 271 r ∷ plain 271 273 r ∷ plain 34359705597 34359705598 rwx ∷ filed 34359705598 34359705599 r true 0 2 ∷ []))
-    ∷ step 0 (Map 1060864 8192 none 50 (negsuc 0) 0) (Ok (Returned 1060864)) (Some (plain 251 259 r ∷ plain 259 261 none ∷ plain 261 265 rw ∷ plain 265 271 r ∷ plain 271 273 r ∷ plain 34359705597 34359705598 rwx ∷ filed 34359705598 34359705599 r true 0 2 ∷ []))
-    ∷ step 0 (Remap 1110016 24576 32768 1 0) (Err 1) (Some (plain 251 259 r ∷ plain 259 261 none ∷ plain 261 265 rw ∷ plain 265 271 r ∷ plain 271 273 r ∷ plain 34359705597 34359705598 rwx ∷ filed 34359705598 34359705599 r true 0 2 ∷ []))
-    ∷ step 0 (Unmap 1110016 8192) (Err 1) (Some (plain 251 259 r ∷ plain 259 261 none ∷ plain 261 265 rw ∷ plain 265 271 r ∷ plain 271 273 r ∷ plain 34359705597 34359705598 rwx ∷ filed 34359705598 34359705599 r true 0 2 ∷ []))
+    kernel_step 0 (Map 1077248 16384 rw 306 (negsuc 0) 0) (Ok (Returned 1077248)) (Some (plain 263 267 rw ∷ []))
+    ∷ kernel_step 0 (Map 1093632 12288 r 32818 (negsuc 0) 0) (Ok (Returned 1093632)) (Some (plain 263 267 rw ∷ plain 267 270 r ∷ []))
+    ∷ kernel_step 0 (Break 1073144) (Ok (Returned 1069056)) (Some (plain 263 267 rw ∷ plain 267 270 r ∷ []))
+    ∷ kernel_step 0 (Touch 264 Write) (Ok (Serves 263 267 rw false 0)) None
+    ∷ kernel_step 0 (Protect 1077248 4096 rw) (Ok (Returned 0)) (Some (plain 263 267 rw ∷ plain 267 270 r ∷ []))
+    ∷ kernel_step 0 (Remap 1093632 12288 24576 1 0) (Ok (Returned 1093632)) (Some (plain 263 267 rw ∷ plain 267 273 r ∷ []))
+    ∷ kernel_step 0 (Map 1069056 8192 rw 50 (negsuc 0) 0) (Ok (Returned 1069056)) (Some (plain 261 263 rw ∷ plain 263 267 rw ∷ plain 267 273 r ∷ []))
+    ∷ kernel_step 0 (Touch 261 Write) (Ok (Serves 261 263 rw false 0)) None
+    ∷ kernel_step 0 (Unmap 1077248 8192) (Ok (Returned 0)) (Some (plain 261 263 rw ∷ plain 265 267 rw ∷ plain 267 273 r ∷ []))
+    ∷ kernel_step 0 (Map 0 4096 r 33 (negsuc 0) 0) (Ok (Returned 140737354129408)) (Some (plain 261 263 rw ∷ plain 265 267 rw ∷ plain 267 273 r ∷ filed 34359705598 34359705599 r true 0 2 ∷ []))
+    ∷ kernel_step 0 (Map 1048576 16384 rwx 50 (negsuc 0) 0) (Ok (Returned 1048576)) (Some (plain 256 260 rwx ∷ plain 261 263 rw ∷ plain 265 267 rw ∷ plain 267 273 r ∷ filed 34359705598 34359705599 r true 0 2 ∷ []))
+    ∷ kernel_step 0 (Touch 256 Read) (Ok (Serves 256 260 rwx false 0)) None
+    ∷ kernel_step 0 (Touch 263 Read) (Ok (Signal MapErr)) None
+    ∷ kernel_step 0 (Touch 272 Read) (Ok (Serves 267 273 r false 0)) None
+    ∷ kernel_step 0 (Seal 1110016 8192 0) (Ok (Returned 0)) (Some (plain 256 260 rwx ∷ plain 261 263 rw ∷ plain 265 267 rw ∷ plain 267 271 r ∷ plain 271 273 r ∷ filed 34359705598 34359705599 r true 0 2 ∷ []))
+    ∷ kernel_step 0 (Touch 205 Read) (Ok (Signal MapErr)) None
+    ∷ kernel_step 0 (Map 1064960 4096 r 49 (negsuc 0) 0) (Ok (Returned 1064960)) (Some (plain 256 260 rwx ∷ filed 260 261 r true 0 3 ∷ plain 261 263 rw ∷ plain 265 267 rw ∷ plain 267 271 r ∷ plain 271 273 r ∷ filed 34359705598 34359705599 r true 0 2 ∷ []))
+    ∷ kernel_step 0 (Touch 272 Write) (Ok (Signal AccErr)) None
+    ∷ kernel_step 0 (Map 1048576 12288 r 306 (negsuc 0) 0) (Ok (Returned 1048576)) (Some (plain 256 259 r ∷ plain 259 260 rwx ∷ filed 260 261 r true 0 3 ∷ plain 261 263 rw ∷ plain 265 267 rw ∷ plain 267 271 r ∷ plain 271 273 r ∷ filed 34359705598 34359705599 r true 0 2 ∷ []))
+    ∷ kernel_step 0 (Break 1081344) (Ok (Returned 1069056)) (Some (plain 256 259 r ∷ plain 259 260 rwx ∷ filed 260 261 r true 0 3 ∷ plain 261 263 rw ∷ plain 265 267 rw ∷ plain 267 271 r ∷ plain 271 273 r ∷ filed 34359705598 34359705599 r true 0 2 ∷ []))
+    ∷ kernel_step 0 (Remap 1097728 12288 12288 7 1085440) (Ok (Returned 1085440)) (Some (plain 256 259 r ∷ plain 259 260 rwx ∷ filed 260 261 r true 0 3 ∷ plain 261 263 rw ∷ plain 265 271 r ∷ plain 271 273 r ∷ filed 34359705598 34359705599 r true 0 2 ∷ []))
+    ∷ kernel_step 0 (Protect 1114112 4096 w) (Err 1) (Some (plain 256 259 r ∷ plain 259 260 rwx ∷ filed 260 261 r true 0 3 ∷ plain 261 263 rw ∷ plain 265 271 r ∷ plain 271 273 r ∷ filed 34359705598 34359705599 r true 0 2 ∷ []))
+    ∷ kernel_step 0 (Touch 251 Write) (Ok (Signal AccErr)) None
+    ∷ kernel_step 0 (Protect 1069056 4096 rw) (Ok (Returned 0)) (Some (plain 251 259 r ∷ plain 259 260 rwx ∷ filed 260 261 r true 0 3 ∷ plain 261 263 rw ∷ plain 265 271 r ∷ plain 271 273 r ∷ filed 34359705598 34359705599 r true 0 2 ∷ []))
+    ∷ kernel_step 0 (Map 1069056 8192 rw 32818 (negsuc 0) 0) (Ok (Returned 1069056)) (Some (plain 251 259 r ∷ plain 259 260 rwx ∷ filed 260 261 r true 0 3 ∷ plain 261 263 rw ∷ plain 265 271 r ∷ plain 271 273 r ∷ filed 34359705598 34359705599 r true 0 2 ∷ []))
+    ∷ kernel_step 0 (Map 1069056 16384 rw 50 (negsuc 0) 0) (Ok (Returned 1069056)) (Some (plain 251 259 r ∷ plain 259 260 rwx ∷ filed 260 261 r true 0 3 ∷ plain 261 265 rw ∷ plain 265 271 r ∷ plain 271 273 r ∷ filed 34359705598 34359705599 r true 0 2 ∷ []))
+    ∷ kernel_step 0 (Map 1114112 4096 rwx 34 (negsuc 0) 0) (Ok (Returned 140737354125312)) (Some (plain 251 259 r ∷ plain 259 260 rwx ∷ filed 260 261 r true 0 3 ∷ plain 261 265 rw ∷ plain 265 271 r ∷ plain 271 273 r ∷ plain 34359705597 34359705598 rwx ∷ filed 34359705598 34359705599 r true 0 2 ∷ []))
+    ∷ kernel_step 0 (Map 1060864 8192 none 50 (negsuc 0) 0) (Ok (Returned 1060864)) (Some (plain 251 259 r ∷ plain 259 261 none ∷ plain 261 265 rw ∷ plain 265 271 r ∷ plain 271 273 r ∷ plain 34359705597 34359705598 rwx ∷ filed 34359705598 34359705599 r true 0 2 ∷ []))
+    ∷ kernel_step 0 (Remap 1110016 24576 32768 1 0) (Err 1) (Some (plain 251 259 r ∷ plain 259 261 none ∷ plain 261 265 rw ∷ plain 265 271 r ∷ plain 271 273 r ∷ plain 34359705597 34359705598 rwx ∷ filed 34359705598 34359705599 r true 0 2 ∷ []))
+    ∷ kernel_step 0 (Unmap 1110016 8192) (Err 1) (Some (plain 251 259 r ∷ plain 259 261 none ∷ plain 261 265 rw ∷ plain 265 271 r ∷ plain 271 273 r ∷ plain 34359705597 34359705598 rwx ∷ filed 34359705598 34359705599 r true 0 2 ∷ []))
     ∷ []
 
 -- hard_1272: the kernel
@@ -1168,36 +1178,36 @@ hard_1272_on = record { rules = linux_6_18; machine = record { lowest_built = 16
 -- hard_1272: its answers
 abbrev pub hard_1272 : List Step
 hard_1272 =
-    step 0 (Map 1060864 8192 rw 306 (negsuc 0) 0) (Ok (Returned 1060864)) (Some (plain 259 261 rw ∷ []))
-    ∷ step 0 (Map 1105920 4096 w 50 (negsuc 0) 0) (Ok (Returned 1105920)) (Some (plain 259 261 rw ∷ plain 270 271 w ∷ []))
-    ∷ step 0 (Protect 1060864 8192 rw) (Ok (Returned 0)) (Some (plain 259 261 rw ∷ plain 270 271 w ∷ []))
-    ∷ step 0 (Remap 1048576 12288 24576 0 0) (Err 14) (Some (plain 259 261 rw ∷ plain 270 271 w ∷ []))
-    ∷ step 0 (Protect 1105920 4096 r) (Ok (Returned 0)) (Some (plain 259 261 rw ∷ plain 270 271 r ∷ []))
-    ∷ step 0 (Remap 1105920 4096 4096 3 1101824) (Ok (Returned 1101824)) (Some (plain 259 261 rw ∷ plain 269 270 r ∷ []))
-    ∷ step 0 (Map 1048576 12288 x 32818 (negsuc 0) 0) (Ok (Returned 1048576)) (Some (plain 256 259 x ∷ plain 259 261 rw ∷ plain 269 270 r ∷ []))
-    ∷ step 0 (Unmap 1101824 4096) (Ok (Returned 0)) (Some (plain 256 259 x ∷ plain 259 261 rw ∷ []))
-    ∷ step 0 (Protect 1060864 8192 r) (Ok (Returned 0)) (Some (plain 256 259 x ∷ plain 259 261 r ∷ []))
-    ∷ step 0 (Touch 258 Write) (Ok (Signal PkuErr)) None
-    ∷ step 0 (Protect 1060864 8192 x) (Ok (Returned 0)) (Some (plain 256 259 x ∷ plain 259 261 x ∷ []))
-    ∷ step 0 (Touch 258 Exec) (Ok (Serves 256 259 x false 0)) None
-    ∷ step 0 (Map 1036288 12288 r 18 (pos 3) 4096) (Ok (Returned 1036288)) (Some (filed 253 256 r false 4096 1 ∷ plain 256 259 x ∷ plain 259 261 x ∷ []))
-    ∷ step 0 (Protect 1048576 16384 x) (Ok (Returned 0)) (Some (filed 253 256 r false 4096 1 ∷ plain 256 259 x ∷ plain 259 261 x ∷ []))
-    ∷ step 0 (Map 1073152 16384 rw 33074 (negsuc 0) 0) (Ok (Returned 1073152)) (Some (filed 253 256 r false 4096 1 ∷ plain 256 259 x ∷ plain 259 261 x ∷ plain 262 266 rw ∷ []))
-    ∷ step 0 (Map 1069056 12288 r 306 (negsuc 0) 0) (Ok (Returned 1069056)) (Some (filed 253 256 r false 4096 1 ∷ plain 256 259 x ∷ plain 259 261 x ∷ plain 261 264 r ∷ plain 264 266 rw ∷ []))
-    ∷ step 0 (Protect 1081344 8192 rw) (Ok (Returned 0)) (Some (filed 253 256 r false 4096 1 ∷ plain 256 259 x ∷ plain 259 261 x ∷ plain 261 264 r ∷ plain 264 266 rw ∷ []))
-    ∷ step 0 (Remap 1081344 4096 4096 7 1060864) (Ok (Returned 1060864)) (Some (filed 253 256 r false 4096 1 ∷ plain 256 259 x ∷ plain 259 260 rw ∷ plain 260 261 x ∷ plain 261 264 r ∷ plain 264 266 rw ∷ []))
-    ∷ step 0 (Remap 1048576 4096 4096 7 1060864) (Ok (Returned 1060864)) (Some (filed 253 256 r false 4096 1 ∷ plain 256 260 x ∷ plain 260 261 x ∷ plain 261 264 r ∷ plain 264 266 rw ∷ []))
-    ∷ step 0 (Protect 1044480 4096 rw) (Ok (Returned 0)) (Some (filed 253 255 r false 4096 1 ∷ filed 255 256 rw false 12288 1 ∷ plain 256 260 x ∷ plain 260 261 x ∷ plain 261 264 r ∷ plain 264 266 rw ∷ []))
-    ∷ step 0 (Unmap 1069056 8192) (Ok (Returned 0)) (Some (filed 253 255 r false 4096 1 ∷ filed 255 256 rw false 12288 1 ∷ plain 256 260 x ∷ plain 260 261 x ∷ plain 263 264 r ∷ plain 264 266 rw ∷ []))
-    ∷ step 0 (Map 1077248 12288 x 50 (negsuc 0) 0) (Ok (Returned 1077248)) (Some (filed 253 255 r false 4096 1 ∷ filed 255 256 rw false 12288 1 ∷ plain 256 260 x ∷ plain 260 261 x ∷ plain 263 266 x ∷ []))
-    ∷ step 0 (Map 1118208 8192 rw 50 (negsuc 0) 0) (Ok (Returned 1118208)) (Some (filed 253 255 r false 4096 1 ∷ filed 255 256 rw false 12288 1 ∷ plain 256 260 x ∷ plain 260 261 x ∷ plain 263 266 x ∷ plain 273 275 rw ∷ []))
-    ∷ step 0 (Remap 1101824 4096 4096 3 1064960) (Err 14) (Some (filed 253 255 r false 4096 1 ∷ filed 255 256 rw false 12288 1 ∷ plain 256 260 x ∷ plain 260 261 x ∷ plain 263 266 x ∷ plain 273 275 rw ∷ []))
-    ∷ step 0 (Remap 1064960 4096 12288 3 1077248) (Ok (Returned 1077248)) (Some (filed 253 255 r false 4096 1 ∷ filed 255 256 rw false 12288 1 ∷ plain 256 260 x ∷ plain 263 266 x ∷ plain 273 275 rw ∷ []))
-    ∷ step 0 (Protect 1044480 81920 r) (Err 12) (Some (filed 253 255 r false 4096 1 ∷ filed 255 256 r false 12288 1 ∷ plain 256 260 r ∷ plain 263 266 x ∷ plain 273 275 rw ∷ []))
-    ∷ step 0 (Map 0 4096 r 34 (negsuc 0) 0) (Ok (Returned 140737354129408)) (Some (filed 253 255 r false 4096 1 ∷ filed 255 256 r false 12288 1 ∷ plain 256 260 r ∷ plain 263 266 x ∷ plain 273 275 rw ∷ plain 34359705598 34359705599 r ∷ []))
-    ∷ step 0 (Protect 1118208 4096 x) (Ok (Returned 0)) (Some (filed 253 255 r false 4096 1 ∷ filed 255 256 r false 12288 1 ∷ plain 256 260 r ∷ plain 263 266 x ∷ plain 273 274 x ∷ plain 274 275 rw ∷ plain 34359705598 34359705599 r ∷ []))
-    ∷ step 0 (Remap 1044480 0 4096 1 0) (Err 22) (Some (filed 253 255 r false 4096 1 ∷ filed 255 256 r false 12288 1 ∷ plain 256 260 r ∷ plain 263 266 x ∷ plain 273 274 x ∷ plain 274 275 rw ∷ plain 34359705598 34359705599 r ∷ []))
-    ∷ step 0 (Protect 1122304 4096 none) (Ok (Returned 0)) (Some (filed 253 255 r false 4096 1 ∷ filed 255 256 r false 12288 1 ∷ plain 256 260 r ∷ plain 263 266 x ∷ plain 273 274 x ∷ plain 274 275 none ∷ plain 34359705598 34359705599 r ∷ []))
+    kernel_step 0 (Map 1060864 8192 rw 306 (negsuc 0) 0) (Ok (Returned 1060864)) (Some (plain 259 261 rw ∷ []))
+    ∷ kernel_step 0 (Map 1105920 4096 w 50 (negsuc 0) 0) (Ok (Returned 1105920)) (Some (plain 259 261 rw ∷ plain 270 271 w ∷ []))
+    ∷ kernel_step 0 (Protect 1060864 8192 rw) (Ok (Returned 0)) (Some (plain 259 261 rw ∷ plain 270 271 w ∷ []))
+    ∷ kernel_step 0 (Remap 1048576 12288 24576 0 0) (Err 14) (Some (plain 259 261 rw ∷ plain 270 271 w ∷ []))
+    ∷ kernel_step 0 (Protect 1105920 4096 r) (Ok (Returned 0)) (Some (plain 259 261 rw ∷ plain 270 271 r ∷ []))
+    ∷ kernel_step 0 (Remap 1105920 4096 4096 3 1101824) (Ok (Returned 1101824)) (Some (plain 259 261 rw ∷ plain 269 270 r ∷ []))
+    ∷ kernel_step 0 (Map 1048576 12288 x 32818 (negsuc 0) 0) (Ok (Returned 1048576)) (Some (plain 256 259 x ∷ plain 259 261 rw ∷ plain 269 270 r ∷ []))
+    ∷ kernel_step 0 (Unmap 1101824 4096) (Ok (Returned 0)) (Some (plain 256 259 x ∷ plain 259 261 rw ∷ []))
+    ∷ kernel_step 0 (Protect 1060864 8192 r) (Ok (Returned 0)) (Some (plain 256 259 x ∷ plain 259 261 r ∷ []))
+    ∷ kernel_step 0 (Touch 258 Write) (Ok (Signal PkuErr)) None
+    ∷ kernel_step 0 (Protect 1060864 8192 x) (Ok (Returned 0)) (Some (plain 256 259 x ∷ plain 259 261 x ∷ []))
+    ∷ kernel_step 0 (Touch 258 Exec) (Ok (Serves 256 259 x false 0)) None
+    ∷ kernel_step 0 (Map 1036288 12288 r 18 (pos 3) 4096) (Ok (Returned 1036288)) (Some (filed 253 256 r false 4096 1 ∷ plain 256 259 x ∷ plain 259 261 x ∷ []))
+    ∷ kernel_step 0 (Protect 1048576 16384 x) (Ok (Returned 0)) (Some (filed 253 256 r false 4096 1 ∷ plain 256 259 x ∷ plain 259 261 x ∷ []))
+    ∷ kernel_step 0 (Map 1073152 16384 rw 33074 (negsuc 0) 0) (Ok (Returned 1073152)) (Some (filed 253 256 r false 4096 1 ∷ plain 256 259 x ∷ plain 259 261 x ∷ plain 262 266 rw ∷ []))
+    ∷ kernel_step 0 (Map 1069056 12288 r 306 (negsuc 0) 0) (Ok (Returned 1069056)) (Some (filed 253 256 r false 4096 1 ∷ plain 256 259 x ∷ plain 259 261 x ∷ plain 261 264 r ∷ plain 264 266 rw ∷ []))
+    ∷ kernel_step 0 (Protect 1081344 8192 rw) (Ok (Returned 0)) (Some (filed 253 256 r false 4096 1 ∷ plain 256 259 x ∷ plain 259 261 x ∷ plain 261 264 r ∷ plain 264 266 rw ∷ []))
+    ∷ kernel_step 0 (Remap 1081344 4096 4096 7 1060864) (Ok (Returned 1060864)) (Some (filed 253 256 r false 4096 1 ∷ plain 256 259 x ∷ plain 259 260 rw ∷ plain 260 261 x ∷ plain 261 264 r ∷ plain 264 266 rw ∷ []))
+    ∷ kernel_step 0 (Remap 1048576 4096 4096 7 1060864) (Ok (Returned 1060864)) (Some (filed 253 256 r false 4096 1 ∷ plain 256 260 x ∷ plain 260 261 x ∷ plain 261 264 r ∷ plain 264 266 rw ∷ []))
+    ∷ kernel_step 0 (Protect 1044480 4096 rw) (Ok (Returned 0)) (Some (filed 253 255 r false 4096 1 ∷ filed 255 256 rw false 12288 1 ∷ plain 256 260 x ∷ plain 260 261 x ∷ plain 261 264 r ∷ plain 264 266 rw ∷ []))
+    ∷ kernel_step 0 (Unmap 1069056 8192) (Ok (Returned 0)) (Some (filed 253 255 r false 4096 1 ∷ filed 255 256 rw false 12288 1 ∷ plain 256 260 x ∷ plain 260 261 x ∷ plain 263 264 r ∷ plain 264 266 rw ∷ []))
+    ∷ kernel_step 0 (Map 1077248 12288 x 50 (negsuc 0) 0) (Ok (Returned 1077248)) (Some (filed 253 255 r false 4096 1 ∷ filed 255 256 rw false 12288 1 ∷ plain 256 260 x ∷ plain 260 261 x ∷ plain 263 266 x ∷ []))
+    ∷ kernel_step 0 (Map 1118208 8192 rw 50 (negsuc 0) 0) (Ok (Returned 1118208)) (Some (filed 253 255 r false 4096 1 ∷ filed 255 256 rw false 12288 1 ∷ plain 256 260 x ∷ plain 260 261 x ∷ plain 263 266 x ∷ plain 273 275 rw ∷ []))
+    ∷ kernel_step 0 (Remap 1101824 4096 4096 3 1064960) (Err 14) (Some (filed 253 255 r false 4096 1 ∷ filed 255 256 rw false 12288 1 ∷ plain 256 260 x ∷ plain 260 261 x ∷ plain 263 266 x ∷ plain 273 275 rw ∷ []))
+    ∷ kernel_step 0 (Remap 1064960 4096 12288 3 1077248) (Ok (Returned 1077248)) (Some (filed 253 255 r false 4096 1 ∷ filed 255 256 rw false 12288 1 ∷ plain 256 260 x ∷ plain 263 266 x ∷ plain 273 275 rw ∷ []))
+    ∷ kernel_step 0 (Protect 1044480 81920 r) (Err 12) (Some (filed 253 255 r false 4096 1 ∷ filed 255 256 r false 12288 1 ∷ plain 256 260 r ∷ plain 263 266 x ∷ plain 273 275 rw ∷ []))
+    ∷ kernel_step 0 (Map 0 4096 r 34 (negsuc 0) 0) (Ok (Returned 140737354129408)) (Some (filed 253 255 r false 4096 1 ∷ filed 255 256 r false 12288 1 ∷ plain 256 260 r ∷ plain 263 266 x ∷ plain 273 275 rw ∷ plain 34359705598 34359705599 r ∷ []))
+    ∷ kernel_step 0 (Protect 1118208 4096 x) (Ok (Returned 0)) (Some (filed 253 255 r false 4096 1 ∷ filed 255 256 r false 12288 1 ∷ plain 256 260 r ∷ plain 263 266 x ∷ plain 273 274 x ∷ plain 274 275 rw ∷ plain 34359705598 34359705599 r ∷ []))
+    ∷ kernel_step 0 (Remap 1044480 0 4096 1 0) (Err 22) (Some (filed 253 255 r false 4096 1 ∷ filed 255 256 r false 12288 1 ∷ plain 256 260 r ∷ plain 263 266 x ∷ plain 273 274 x ∷ plain 274 275 rw ∷ plain 34359705598 34359705599 r ∷ []))
+    ∷ kernel_step 0 (Protect 1122304 4096 none) (Ok (Returned 0)) (Some (filed 253 255 r false 4096 1 ∷ filed 255 256 r false 12288 1 ∷ plain 256 260 r ∷ plain 263 266 x ∷ plain 273 274 x ∷ plain 274 275 none ∷ plain 34359705598 34359705599 r ∷ []))
     ∷ []
 
 -- sealed_1402: the kernel
@@ -1207,36 +1217,36 @@ sealed_1402_on = record { rules = linux_6_18; machine = record { lowest_built = 
 -- sealed_1402: its answers
 abbrev pub sealed_1402 : List Step
 sealed_1402 =
-    step 0 (Map 1114112 8192 rw 50 (negsuc 0) 0) (Ok (Returned 1114112)) (Some (plain 272 274 rw ∷ []))
-    ∷ step 0 (Map 0 8192 r 33 (negsuc 0) 0) (Ok (Returned 140737354125312)) (Some (plain 272 274 rw ∷ filed 34359705597 34359705599 r true 0 2 ∷ []))
-    ∷ step 0 (Break 1085432) (Ok (Returned 1085432)) (Some (heap 263 265 rw ∷ plain 272 274 rw ∷ filed 34359705597 34359705599 r true 0 2 ∷ []))
-    ∷ step 0 (Protect 1077248 40960 rw) (Err 12) (Some (heap 263 265 rw ∷ plain 272 274 rw ∷ filed 34359705597 34359705599 r true 0 2 ∷ []))
-    ∷ step 0 (Seal 1118208 4096 0) (Ok (Returned 0)) (Some (heap 263 265 rw ∷ plain 272 273 rw ∷ plain 273 274 rw ∷ filed 34359705597 34359705599 r true 0 2 ∷ []))
-    ∷ step 0 (Seal 1114112 4096 0) (Ok (Returned 0)) (Some (heap 263 265 rw ∷ plain 272 274 rw ∷ filed 34359705597 34359705599 r true 0 2 ∷ []))
-    ∷ step 0 (Seal 1081344 8192 0) (Err 12) (Some (heap 263 265 rw ∷ plain 272 274 rw ∷ filed 34359705597 34359705599 r true 0 2 ∷ []))
-    ∷ step 0 (Break 1081336) (Ok (Returned 1081336)) (Some (heap 263 264 rw ∷ plain 272 274 rw ∷ filed 34359705597 34359705599 r true 0 2 ∷ []))
-    ∷ step 0 (Remap 1077248 4096 4096 7 1073152) (Ok (Returned 1073152)) (Some (heap 262 264 rw ∷ plain 272 274 rw ∷ filed 34359705597 34359705599 r true 0 2 ∷ []))
-    ∷ step 0 (Unmap 1073152 4096) (Ok (Returned 0)) (Some (heap 263 264 rw ∷ plain 272 274 rw ∷ filed 34359705597 34359705599 r true 0 2 ∷ []))
-    ∷ step 0 (Seal 1114112 8192 0) (Ok (Returned 0)) (Some (heap 263 264 rw ∷ plain 272 274 rw ∷ filed 34359705597 34359705599 r true 0 2 ∷ []))
-    ∷ step 0 (Protect 1118208 4096 rw) (Err 1) (Some (heap 263 264 rw ∷ plain 272 274 rw ∷ filed 34359705597 34359705599 r true 0 2 ∷ []))
-    ∷ step 0 (Touch 258 Exec) (Ok (Signal MapErr)) None
-    ∷ step 0 (Seal 1114112 20480 0) (Err 12) (Some (heap 263 264 rw ∷ plain 272 274 rw ∷ filed 34359705597 34359705599 r true 0 2 ∷ []))
-    ∷ step 0 (Touch 272 Write) (Ok (Serves 272 274 rw false 0)) None
-    ∷ step 0 (Remap 1114112 0 4096 3 1122304) (Err 1) (Some (heap 263 264 rw ∷ plain 272 274 rw ∷ filed 34359705597 34359705599 r true 0 2 ∷ []))
-    ∷ step 0 (Seal 1118208 4096 0) (Ok (Returned 0)) (Some (heap 263 264 rw ∷ plain 272 274 rw ∷ filed 34359705597 34359705599 r true 0 2 ∷ []))
-    ∷ step 0 (Remap 1114112 8192 8192 7 1069056) (Err 1) (Some (heap 263 264 rw ∷ plain 272 274 rw ∷ filed 34359705597 34359705599 r true 0 2 ∷ []))
-    ∷ step 0 (Seal 1077248 4096 0) (Ok (Returned 0)) (Some (heap 263 264 rw ∷ plain 272 274 rw ∷ filed 34359705597 34359705599 r true 0 2 ∷ []))
-    ∷ step 0 (Unmap 1114112 8192) (Err 1) (Some (heap 263 264 rw ∷ plain 272 274 rw ∷ filed 34359705597 34359705599 r true 0 2 ∷ []))
-    ∷ step 0 (Protect 1114112 8192 rw) (Err 1) (Some (heap 263 264 rw ∷ plain 272 274 rw ∷ filed 34359705597 34359705599 r true 0 2 ∷ []))
-    ∷ step 0 (Seal 1077248 45056 0) (Err 12) (Some (heap 263 264 rw ∷ plain 272 274 rw ∷ filed 34359705597 34359705599 r true 0 2 ∷ []))
-    ∷ step 0 (Seal 1114112 8192 0) (Ok (Returned 0)) (Some (heap 263 264 rw ∷ plain 272 274 rw ∷ filed 34359705597 34359705599 r true 0 2 ∷ []))
-    ∷ step 0 (Map 1089536 16384 rw 18 (pos 3) 8192) (Err 13) (Some (heap 263 264 rw ∷ plain 272 274 rw ∷ filed 34359705597 34359705599 r true 0 2 ∷ []))
-    ∷ step 0 (Seal 1114112 20480 0) (Err 12) (Some (heap 263 264 rw ∷ plain 272 274 rw ∷ filed 34359705597 34359705599 r true 0 2 ∷ []))
-    ∷ step 0 (Break 1081344) (Ok (Returned 1081344)) (Some (heap 263 264 rw ∷ plain 272 274 rw ∷ filed 34359705597 34359705599 r true 0 2 ∷ []))
-    ∷ step 0 (Break 1097736) (Ok (Returned 1097736)) (Some (heap 263 264 rw ∷ heap 264 269 rw ∷ plain 272 274 rw ∷ filed 34359705597 34359705599 r true 0 2 ∷ []))
-    ∷ step 0 (Protect 1077248 40960 rw) (Err 1) (Some (heap 263 264 rw ∷ heap 264 269 rw ∷ plain 272 274 rw ∷ filed 34359705597 34359705599 r true 0 2 ∷ []))
-    ∷ step 0 (Touch 263 Exec) (Ok (Signal AccErr)) None
-    ∷ step 0 (Protect 1077248 4096 rw) (Err 1) (Some (heap 263 264 rw ∷ heap 264 269 rw ∷ plain 272 274 rw ∷ filed 34359705597 34359705599 r true 0 2 ∷ []))
+    kernel_step 0 (Map 1114112 8192 rw 50 (negsuc 0) 0) (Ok (Returned 1114112)) (Some (plain 272 274 rw ∷ []))
+    ∷ kernel_step 0 (Map 0 8192 r 33 (negsuc 0) 0) (Ok (Returned 140737354125312)) (Some (plain 272 274 rw ∷ filed 34359705597 34359705599 r true 0 2 ∷ []))
+    ∷ kernel_step 0 (Break 1085432) (Ok (Returned 1085432)) (Some (heap 263 265 rw ∷ plain 272 274 rw ∷ filed 34359705597 34359705599 r true 0 2 ∷ []))
+    ∷ kernel_step 0 (Protect 1077248 40960 rw) (Err 12) (Some (heap 263 265 rw ∷ plain 272 274 rw ∷ filed 34359705597 34359705599 r true 0 2 ∷ []))
+    ∷ kernel_step 0 (Seal 1118208 4096 0) (Ok (Returned 0)) (Some (heap 263 265 rw ∷ plain 272 273 rw ∷ plain 273 274 rw ∷ filed 34359705597 34359705599 r true 0 2 ∷ []))
+    ∷ kernel_step 0 (Seal 1114112 4096 0) (Ok (Returned 0)) (Some (heap 263 265 rw ∷ plain 272 274 rw ∷ filed 34359705597 34359705599 r true 0 2 ∷ []))
+    ∷ kernel_step 0 (Seal 1081344 8192 0) (Err 12) (Some (heap 263 265 rw ∷ plain 272 274 rw ∷ filed 34359705597 34359705599 r true 0 2 ∷ []))
+    ∷ kernel_step 0 (Break 1081336) (Ok (Returned 1081336)) (Some (heap 263 264 rw ∷ plain 272 274 rw ∷ filed 34359705597 34359705599 r true 0 2 ∷ []))
+    ∷ kernel_step 0 (Remap 1077248 4096 4096 7 1073152) (Ok (Returned 1073152)) (Some (heap 262 264 rw ∷ plain 272 274 rw ∷ filed 34359705597 34359705599 r true 0 2 ∷ []))
+    ∷ kernel_step 0 (Unmap 1073152 4096) (Ok (Returned 0)) (Some (heap 263 264 rw ∷ plain 272 274 rw ∷ filed 34359705597 34359705599 r true 0 2 ∷ []))
+    ∷ kernel_step 0 (Seal 1114112 8192 0) (Ok (Returned 0)) (Some (heap 263 264 rw ∷ plain 272 274 rw ∷ filed 34359705597 34359705599 r true 0 2 ∷ []))
+    ∷ kernel_step 0 (Protect 1118208 4096 rw) (Err 1) (Some (heap 263 264 rw ∷ plain 272 274 rw ∷ filed 34359705597 34359705599 r true 0 2 ∷ []))
+    ∷ kernel_step 0 (Touch 258 Exec) (Ok (Signal MapErr)) None
+    ∷ kernel_step 0 (Seal 1114112 20480 0) (Err 12) (Some (heap 263 264 rw ∷ plain 272 274 rw ∷ filed 34359705597 34359705599 r true 0 2 ∷ []))
+    ∷ kernel_step 0 (Touch 272 Write) (Ok (Serves 272 274 rw false 0)) None
+    ∷ kernel_step 0 (Remap 1114112 0 4096 3 1122304) (Err 1) (Some (heap 263 264 rw ∷ plain 272 274 rw ∷ filed 34359705597 34359705599 r true 0 2 ∷ []))
+    ∷ kernel_step 0 (Seal 1118208 4096 0) (Ok (Returned 0)) (Some (heap 263 264 rw ∷ plain 272 274 rw ∷ filed 34359705597 34359705599 r true 0 2 ∷ []))
+    ∷ kernel_step 0 (Remap 1114112 8192 8192 7 1069056) (Err 1) (Some (heap 263 264 rw ∷ plain 272 274 rw ∷ filed 34359705597 34359705599 r true 0 2 ∷ []))
+    ∷ kernel_step 0 (Seal 1077248 4096 0) (Ok (Returned 0)) (Some (heap 263 264 rw ∷ plain 272 274 rw ∷ filed 34359705597 34359705599 r true 0 2 ∷ []))
+    ∷ kernel_step 0 (Unmap 1114112 8192) (Err 1) (Some (heap 263 264 rw ∷ plain 272 274 rw ∷ filed 34359705597 34359705599 r true 0 2 ∷ []))
+    ∷ kernel_step 0 (Protect 1114112 8192 rw) (Err 1) (Some (heap 263 264 rw ∷ plain 272 274 rw ∷ filed 34359705597 34359705599 r true 0 2 ∷ []))
+    ∷ kernel_step 0 (Seal 1077248 45056 0) (Err 12) (Some (heap 263 264 rw ∷ plain 272 274 rw ∷ filed 34359705597 34359705599 r true 0 2 ∷ []))
+    ∷ kernel_step 0 (Seal 1114112 8192 0) (Ok (Returned 0)) (Some (heap 263 264 rw ∷ plain 272 274 rw ∷ filed 34359705597 34359705599 r true 0 2 ∷ []))
+    ∷ kernel_step 0 (Map 1089536 16384 rw 18 (pos 3) 8192) (Err 13) (Some (heap 263 264 rw ∷ plain 272 274 rw ∷ filed 34359705597 34359705599 r true 0 2 ∷ []))
+    ∷ kernel_step 0 (Seal 1114112 20480 0) (Err 12) (Some (heap 263 264 rw ∷ plain 272 274 rw ∷ filed 34359705597 34359705599 r true 0 2 ∷ []))
+    ∷ kernel_step 0 (Break 1081344) (Ok (Returned 1081344)) (Some (heap 263 264 rw ∷ plain 272 274 rw ∷ filed 34359705597 34359705599 r true 0 2 ∷ []))
+    ∷ kernel_step 0 (Break 1097736) (Ok (Returned 1097736)) (Some (heap 263 264 rw ∷ heap 264 269 rw ∷ plain 272 274 rw ∷ filed 34359705597 34359705599 r true 0 2 ∷ []))
+    ∷ kernel_step 0 (Protect 1077248 40960 rw) (Err 1) (Some (heap 263 264 rw ∷ heap 264 269 rw ∷ plain 272 274 rw ∷ filed 34359705597 34359705599 r true 0 2 ∷ []))
+    ∷ kernel_step 0 (Touch 263 Exec) (Ok (Signal AccErr)) None
+    ∷ kernel_step 0 (Protect 1077248 4096 rw) (Err 1) (Some (heap 263 264 rw ∷ heap 264 269 rw ∷ plain 272 274 rw ∷ filed 34359705597 34359705599 r true 0 2 ∷ []))
     ∷ []
 
 -- hard_1464: the kernel
@@ -1246,36 +1256,36 @@ hard_1464_on = record { rules = linux_6_18; machine = record { lowest_built = 16
 -- hard_1464: its answers
 abbrev pub hard_1464 : List Step
 hard_1464 =
-    step 0 (Map 1073152 12288 x 16418 (negsuc 0) 0) (Ok (Returned 1073152)) (Some (plain 262 265 x ∷ []))
-    ∷ step 0 (Map 1069056 4096 r 50 (negsuc 0) 0) (Ok (Returned 1069056)) (Some (plain 261 262 r ∷ plain 262 265 x ∷ []))
-    ∷ step 0 (Map 1073152 4096 r 50 (negsuc 0) 0) (Ok (Returned 1073152)) (Some (plain 261 263 r ∷ plain 263 265 x ∷ []))
-    ∷ step 0 (Map 0 4096 rx 34 (negsuc 0) 0) (Ok (Returned 140737354129408)) (Some (plain 261 263 r ∷ plain 263 265 x ∷ plain 34359705598 34359705599 rx ∷ []))
-    ∷ step 0 (Touch 261 Write) (Ok (Signal AccErr)) None
-    ∷ step 0 (Map 1085440 8192 rw 50 (negsuc 0) 0) (Ok (Returned 1085440)) (Some (plain 261 263 r ∷ plain 263 265 x ∷ plain 265 267 rw ∷ plain 34359705598 34359705599 rx ∷ []))
-    ∷ step 0 (Remap 1085440 4096 4096 7 1081344) (Ok (Returned 1081344)) (Some (plain 261 263 r ∷ plain 263 264 x ∷ plain 264 267 rw ∷ plain 34359705598 34359705599 rx ∷ []))
-    ∷ step 0 (Touch 274 Read) (Ok (Signal MapErr)) None
-    ∷ step 0 (Remap 1069056 20480 20480 7 1126400) (Ok (Returned 1126400)) (Some (plain 261 263 r ∷ plain 263 264 x ∷ plain 264 267 rw ∷ plain 275 277 r ∷ plain 277 278 x ∷ plain 278 280 rw ∷ plain 34359705598 34359705599 rx ∷ []))
-    ∷ step 0 (Map 1126400 16384 none 34 (negsuc 0) 0) (Ok (Returned 140737354113024)) (Some (plain 261 263 r ∷ plain 263 264 x ∷ plain 264 267 rw ∷ plain 275 277 r ∷ plain 277 278 x ∷ plain 278 280 rw ∷ plain 34359705594 34359705598 none ∷ plain 34359705598 34359705599 rx ∷ []))
-    ∷ step 0 (Protect 1081344 61440 rw) (Err 12) (Some (plain 261 263 r ∷ plain 263 264 x ∷ plain 264 267 rw ∷ plain 275 277 r ∷ plain 277 278 x ∷ plain 278 280 rw ∷ plain 34359705594 34359705598 none ∷ plain 34359705598 34359705599 rx ∷ []))
-    ∷ step 0 (Map 1122304 4096 none 50 (negsuc 0) 0) (Ok (Returned 1122304)) (Some (plain 261 263 r ∷ plain 263 264 x ∷ plain 264 267 rw ∷ plain 274 275 none ∷ plain 275 277 r ∷ plain 277 278 x ∷ plain 278 280 rw ∷ plain 34359705594 34359705598 none ∷ plain 34359705598 34359705599 rx ∷ []))
-    ∷ step 0 (Protect 1122304 4096 rw) (Ok (Returned 0)) (Some (plain 261 263 r ∷ plain 263 264 x ∷ plain 264 267 rw ∷ plain 274 275 rw ∷ plain 275 277 r ∷ plain 277 278 x ∷ plain 278 280 rw ∷ plain 34359705594 34359705598 none ∷ plain 34359705598 34359705599 rx ∷ []))
-    ∷ step 0 (Touch 262 Exec) (Ok (Signal AccErr)) None
-    ∷ step 0 (Protect 1077248 4096 r) (Ok (Returned 0)) (Some (plain 261 263 r ∷ plain 263 264 r ∷ plain 264 267 rw ∷ plain 274 275 rw ∷ plain 275 277 r ∷ plain 277 278 x ∷ plain 278 280 rw ∷ plain 34359705594 34359705598 none ∷ plain 34359705598 34359705599 rx ∷ []))
-    ∷ step 0 (Touch 277 Write) (Ok (Signal PkuErr)) None
-    ∷ step 0 (Map 0 8192 rw 16417 (negsuc 0) 0) (Ok (Returned 140737354104832)) (Some (plain 261 263 r ∷ plain 263 264 r ∷ plain 264 267 rw ∷ plain 274 275 rw ∷ plain 275 277 r ∷ plain 277 278 x ∷ plain 278 280 rw ∷ filed 34359705592 34359705594 rw true 0 1 ∷ plain 34359705594 34359705598 none ∷ plain 34359705598 34359705599 rx ∷ []))
-    ∷ step 0 (Map 1105920 12288 r 306 (negsuc 0) 0) (Ok (Returned 1105920)) (Some (plain 261 263 r ∷ plain 263 264 r ∷ plain 264 267 rw ∷ plain 270 273 r ∷ plain 274 275 rw ∷ plain 275 277 r ∷ plain 277 278 x ∷ plain 278 280 rw ∷ filed 34359705592 34359705594 rw true 0 1 ∷ plain 34359705594 34359705598 none ∷ plain 34359705598 34359705599 rx ∷ []))
-    ∷ step 0 (Touch 274 Write) (Ok (Serves 274 275 rw false 0)) None
-    ∷ step 0 (Protect 1134592 4096 r) (Ok (Returned 0)) (Some (plain 261 263 r ∷ plain 263 264 r ∷ plain 264 267 rw ∷ plain 270 273 r ∷ plain 274 275 rw ∷ plain 275 277 r ∷ plain 277 278 r ∷ plain 278 280 rw ∷ filed 34359705592 34359705594 rw true 0 1 ∷ plain 34359705594 34359705598 none ∷ plain 34359705598 34359705599 rx ∷ []))
-    ∷ step 0 (Remap 1077248 4096 4096 1 0) (Ok (Returned 1077248)) (Some (plain 261 263 r ∷ plain 263 264 r ∷ plain 264 267 rw ∷ plain 270 273 r ∷ plain 274 275 rw ∷ plain 275 277 r ∷ plain 277 278 r ∷ plain 278 280 rw ∷ filed 34359705592 34359705594 rw true 0 1 ∷ plain 34359705594 34359705598 none ∷ plain 34359705598 34359705599 rx ∷ []))
-    ∷ step 0 (Touch 268 Write) (Ok (Signal MapErr)) None
-    ∷ step 0 (Touch 0 Write) (Ok (Signal MapErr)) None
-    ∷ step 0 (Map 140737354100736 4096 rw 50 (negsuc 0) 0) (Ok (Returned 140737354100736)) (Some (plain 261 263 r ∷ plain 263 264 r ∷ plain 264 267 rw ∷ plain 270 273 r ∷ plain 274 275 rw ∷ plain 275 277 r ∷ plain 277 278 r ∷ plain 278 280 rw ∷ plain 34359705591 34359705592 rw ∷ filed 34359705592 34359705594 rw true 0 1 ∷ plain 34359705594 34359705598 none ∷ plain 34359705598 34359705599 rx ∷ []))
-    ∷ step 0 (Touch 278 Write) (Ok (Serves 278 280 rw false 0)) None
-    ∷ step 0 (Remap 1122304 0 4096 3 1138688) (Err 22) (Some (plain 261 263 r ∷ plain 263 264 r ∷ plain 264 267 rw ∷ plain 270 273 r ∷ plain 274 275 rw ∷ plain 275 277 r ∷ plain 277 278 r ∷ plain 278 280 rw ∷ plain 34359705591 34359705592 rw ∷ filed 34359705592 34359705594 rw true 0 1 ∷ plain 34359705594 34359705598 none ∷ plain 34359705598 34359705599 rx ∷ []))
-    ∷ step 0 (Protect 1122304 4096 r) (Ok (Returned 0)) (Some (plain 261 263 r ∷ plain 263 264 r ∷ plain 264 267 rw ∷ plain 270 273 r ∷ plain 274 275 r ∷ plain 275 277 r ∷ plain 277 278 r ∷ plain 278 280 rw ∷ plain 34359705591 34359705592 rw ∷ filed 34359705592 34359705594 rw true 0 1 ∷ plain 34359705594 34359705598 none ∷ plain 34359705598 34359705599 rx ∷ []))
-    ∷ step 0 (Map 1089536 16384 r 34 (negsuc 0) 0) (Ok (Returned 140737354084352)) (Some (plain 261 263 r ∷ plain 263 264 r ∷ plain 264 267 rw ∷ plain 270 273 r ∷ plain 274 275 r ∷ plain 275 277 r ∷ plain 277 278 r ∷ plain 278 280 rw ∷ plain 34359705587 34359705591 r ∷ plain 34359705591 34359705592 rw ∷ filed 34359705592 34359705594 rw true 0 1 ∷ plain 34359705594 34359705598 none ∷ plain 34359705598 34359705599 rx ∷ []))
-    ∷ step 0 (Map 1077248 16384 r 1048610 (negsuc 0) 0) (Err 17) (Some (plain 261 263 r ∷ plain 263 264 r ∷ plain 264 267 rw ∷ plain 270 273 r ∷ plain 274 275 r ∷ plain 275 277 r ∷ plain 277 278 r ∷ plain 278 280 rw ∷ plain 34359705587 34359705591 r ∷ plain 34359705591 34359705592 rw ∷ filed 34359705592 34359705594 rw true 0 1 ∷ plain 34359705594 34359705598 none ∷ plain 34359705598 34359705599 rx ∷ []))
-    ∷ step 0 (Touch 277 Read) (Ok (Serves 277 278 r false 0)) (Some (plain 261 263 r ∷ plain 263 264 r ∷ plain 264 267 rw ∷ plain 270 273 r ∷ plain 274 275 r ∷ plain 275 277 r ∷ plain 277 278 r ∷ plain 278 280 rw ∷ plain 34359705587 34359705591 r ∷ plain 34359705591 34359705592 rw ∷ filed 34359705592 34359705594 rw true 0 1 ∷ plain 34359705594 34359705598 none ∷ plain 34359705598 34359705599 rx ∷ []))
+    kernel_step 0 (Map 1073152 12288 x 16418 (negsuc 0) 0) (Ok (Returned 1073152)) (Some (plain 262 265 x ∷ []))
+    ∷ kernel_step 0 (Map 1069056 4096 r 50 (negsuc 0) 0) (Ok (Returned 1069056)) (Some (plain 261 262 r ∷ plain 262 265 x ∷ []))
+    ∷ kernel_step 0 (Map 1073152 4096 r 50 (negsuc 0) 0) (Ok (Returned 1073152)) (Some (plain 261 263 r ∷ plain 263 265 x ∷ []))
+    ∷ kernel_step 0 (Map 0 4096 rx 34 (negsuc 0) 0) (Ok (Returned 140737354129408)) (Some (plain 261 263 r ∷ plain 263 265 x ∷ plain 34359705598 34359705599 rx ∷ []))
+    ∷ kernel_step 0 (Touch 261 Write) (Ok (Signal AccErr)) None
+    ∷ kernel_step 0 (Map 1085440 8192 rw 50 (negsuc 0) 0) (Ok (Returned 1085440)) (Some (plain 261 263 r ∷ plain 263 265 x ∷ plain 265 267 rw ∷ plain 34359705598 34359705599 rx ∷ []))
+    ∷ kernel_step 0 (Remap 1085440 4096 4096 7 1081344) (Ok (Returned 1081344)) (Some (plain 261 263 r ∷ plain 263 264 x ∷ plain 264 267 rw ∷ plain 34359705598 34359705599 rx ∷ []))
+    ∷ kernel_step 0 (Touch 274 Read) (Ok (Signal MapErr)) None
+    ∷ kernel_step 0 (Remap 1069056 20480 20480 7 1126400) (Ok (Returned 1126400)) (Some (plain 261 263 r ∷ plain 263 264 x ∷ plain 264 267 rw ∷ plain 275 277 r ∷ plain 277 278 x ∷ plain 278 280 rw ∷ plain 34359705598 34359705599 rx ∷ []))
+    ∷ kernel_step 0 (Map 1126400 16384 none 34 (negsuc 0) 0) (Ok (Returned 140737354113024)) (Some (plain 261 263 r ∷ plain 263 264 x ∷ plain 264 267 rw ∷ plain 275 277 r ∷ plain 277 278 x ∷ plain 278 280 rw ∷ plain 34359705594 34359705598 none ∷ plain 34359705598 34359705599 rx ∷ []))
+    ∷ kernel_step 0 (Protect 1081344 61440 rw) (Err 12) (Some (plain 261 263 r ∷ plain 263 264 x ∷ plain 264 267 rw ∷ plain 275 277 r ∷ plain 277 278 x ∷ plain 278 280 rw ∷ plain 34359705594 34359705598 none ∷ plain 34359705598 34359705599 rx ∷ []))
+    ∷ kernel_step 0 (Map 1122304 4096 none 50 (negsuc 0) 0) (Ok (Returned 1122304)) (Some (plain 261 263 r ∷ plain 263 264 x ∷ plain 264 267 rw ∷ plain 274 275 none ∷ plain 275 277 r ∷ plain 277 278 x ∷ plain 278 280 rw ∷ plain 34359705594 34359705598 none ∷ plain 34359705598 34359705599 rx ∷ []))
+    ∷ kernel_step 0 (Protect 1122304 4096 rw) (Ok (Returned 0)) (Some (plain 261 263 r ∷ plain 263 264 x ∷ plain 264 267 rw ∷ plain 274 275 rw ∷ plain 275 277 r ∷ plain 277 278 x ∷ plain 278 280 rw ∷ plain 34359705594 34359705598 none ∷ plain 34359705598 34359705599 rx ∷ []))
+    ∷ kernel_step 0 (Touch 262 Exec) (Ok (Signal AccErr)) None
+    ∷ kernel_step 0 (Protect 1077248 4096 r) (Ok (Returned 0)) (Some (plain 261 263 r ∷ plain 263 264 r ∷ plain 264 267 rw ∷ plain 274 275 rw ∷ plain 275 277 r ∷ plain 277 278 x ∷ plain 278 280 rw ∷ plain 34359705594 34359705598 none ∷ plain 34359705598 34359705599 rx ∷ []))
+    ∷ kernel_step 0 (Touch 277 Write) (Ok (Signal PkuErr)) None
+    ∷ kernel_step 0 (Map 0 8192 rw 16417 (negsuc 0) 0) (Ok (Returned 140737354104832)) (Some (plain 261 263 r ∷ plain 263 264 r ∷ plain 264 267 rw ∷ plain 274 275 rw ∷ plain 275 277 r ∷ plain 277 278 x ∷ plain 278 280 rw ∷ filed 34359705592 34359705594 rw true 0 1 ∷ plain 34359705594 34359705598 none ∷ plain 34359705598 34359705599 rx ∷ []))
+    ∷ kernel_step 0 (Map 1105920 12288 r 306 (negsuc 0) 0) (Ok (Returned 1105920)) (Some (plain 261 263 r ∷ plain 263 264 r ∷ plain 264 267 rw ∷ plain 270 273 r ∷ plain 274 275 rw ∷ plain 275 277 r ∷ plain 277 278 x ∷ plain 278 280 rw ∷ filed 34359705592 34359705594 rw true 0 1 ∷ plain 34359705594 34359705598 none ∷ plain 34359705598 34359705599 rx ∷ []))
+    ∷ kernel_step 0 (Touch 274 Write) (Ok (Serves 274 275 rw false 0)) None
+    ∷ kernel_step 0 (Protect 1134592 4096 r) (Ok (Returned 0)) (Some (plain 261 263 r ∷ plain 263 264 r ∷ plain 264 267 rw ∷ plain 270 273 r ∷ plain 274 275 rw ∷ plain 275 277 r ∷ plain 277 278 r ∷ plain 278 280 rw ∷ filed 34359705592 34359705594 rw true 0 1 ∷ plain 34359705594 34359705598 none ∷ plain 34359705598 34359705599 rx ∷ []))
+    ∷ kernel_step 0 (Remap 1077248 4096 4096 1 0) (Ok (Returned 1077248)) (Some (plain 261 263 r ∷ plain 263 264 r ∷ plain 264 267 rw ∷ plain 270 273 r ∷ plain 274 275 rw ∷ plain 275 277 r ∷ plain 277 278 r ∷ plain 278 280 rw ∷ filed 34359705592 34359705594 rw true 0 1 ∷ plain 34359705594 34359705598 none ∷ plain 34359705598 34359705599 rx ∷ []))
+    ∷ kernel_step 0 (Touch 268 Write) (Ok (Signal MapErr)) None
+    ∷ kernel_step 0 (Touch 0 Write) (Ok (Signal MapErr)) None
+    ∷ kernel_step 0 (Map 140737354100736 4096 rw 50 (negsuc 0) 0) (Ok (Returned 140737354100736)) (Some (plain 261 263 r ∷ plain 263 264 r ∷ plain 264 267 rw ∷ plain 270 273 r ∷ plain 274 275 rw ∷ plain 275 277 r ∷ plain 277 278 r ∷ plain 278 280 rw ∷ plain 34359705591 34359705592 rw ∷ filed 34359705592 34359705594 rw true 0 1 ∷ plain 34359705594 34359705598 none ∷ plain 34359705598 34359705599 rx ∷ []))
+    ∷ kernel_step 0 (Touch 278 Write) (Ok (Serves 278 280 rw false 0)) None
+    ∷ kernel_step 0 (Remap 1122304 0 4096 3 1138688) (Err 22) (Some (plain 261 263 r ∷ plain 263 264 r ∷ plain 264 267 rw ∷ plain 270 273 r ∷ plain 274 275 rw ∷ plain 275 277 r ∷ plain 277 278 r ∷ plain 278 280 rw ∷ plain 34359705591 34359705592 rw ∷ filed 34359705592 34359705594 rw true 0 1 ∷ plain 34359705594 34359705598 none ∷ plain 34359705598 34359705599 rx ∷ []))
+    ∷ kernel_step 0 (Protect 1122304 4096 r) (Ok (Returned 0)) (Some (plain 261 263 r ∷ plain 263 264 r ∷ plain 264 267 rw ∷ plain 270 273 r ∷ plain 274 275 r ∷ plain 275 277 r ∷ plain 277 278 r ∷ plain 278 280 rw ∷ plain 34359705591 34359705592 rw ∷ filed 34359705592 34359705594 rw true 0 1 ∷ plain 34359705594 34359705598 none ∷ plain 34359705598 34359705599 rx ∷ []))
+    ∷ kernel_step 0 (Map 1089536 16384 r 34 (negsuc 0) 0) (Ok (Returned 140737354084352)) (Some (plain 261 263 r ∷ plain 263 264 r ∷ plain 264 267 rw ∷ plain 270 273 r ∷ plain 274 275 r ∷ plain 275 277 r ∷ plain 277 278 r ∷ plain 278 280 rw ∷ plain 34359705587 34359705591 r ∷ plain 34359705591 34359705592 rw ∷ filed 34359705592 34359705594 rw true 0 1 ∷ plain 34359705594 34359705598 none ∷ plain 34359705598 34359705599 rx ∷ []))
+    ∷ kernel_step 0 (Map 1077248 16384 r 1048610 (negsuc 0) 0) (Err 17) (Some (plain 261 263 r ∷ plain 263 264 r ∷ plain 264 267 rw ∷ plain 270 273 r ∷ plain 274 275 r ∷ plain 275 277 r ∷ plain 277 278 r ∷ plain 278 280 rw ∷ plain 34359705587 34359705591 r ∷ plain 34359705591 34359705592 rw ∷ filed 34359705592 34359705594 rw true 0 1 ∷ plain 34359705594 34359705598 none ∷ plain 34359705598 34359705599 rx ∷ []))
+    ∷ kernel_step 0 (Touch 277 Read) (Ok (Serves 277 278 r false 0)) (Some (plain 261 263 r ∷ plain 263 264 r ∷ plain 264 267 rw ∷ plain 270 273 r ∷ plain 274 275 r ∷ plain 275 277 r ∷ plain 277 278 r ∷ plain 278 280 rw ∷ plain 34359705587 34359705591 r ∷ plain 34359705591 34359705592 rw ∷ filed 34359705592 34359705594 rw true 0 1 ∷ plain 34359705594 34359705598 none ∷ plain 34359705598 34359705599 rx ∷ []))
     ∷ []
 
 -- written_2062: the kernel
@@ -1285,36 +1295,36 @@ written_2062_on = record { rules = linux_6_18; machine = record { lowest_built =
 -- written_2062: its answers
 abbrev pub written_2062 : List Step
 written_2062 =
-    step 0 (Map 1048576 16384 r 50 (negsuc 0) 0) (Ok (Returned 1048576)) (Some (plain 256 260 r ∷ []))
-    ∷ step 0 (Map 1052672 16384 r 50 (negsuc 0) 0) (Ok (Returned 1052672)) (Some (plain 256 261 r ∷ []))
-    ∷ step 0 (Touch 259 Write) (Ok (Signal AccErr)) None
-    ∷ step 0 (Touch 257 Write) (Ok (Signal AccErr)) None
-    ∷ step 0 (Map 1056768 12288 r 50 (negsuc 0) 0) (Ok (Returned 1056768)) (Some (plain 256 261 r ∷ []))
-    ∷ step 0 (Map 1060864 4096 r 50 (negsuc 0) 0) (Ok (Returned 1060864)) (Some (plain 256 261 r ∷ []))
-    ∷ step 0 (Fork 1) (Ok (Returned 0)) None
-    ∷ step 0 (Touch 257 Write) (Ok (Signal AccErr)) None
-    ∷ step 0 (Touch 260 Write) (Ok (Signal AccErr)) None
-    ∷ step 0 (Touch 257 Read) (Ok (Serves 256 261 r false 0)) None
-    ∷ step 0 (Map 1064960 4096 r 50 (negsuc 0) 0) (Ok (Returned 1064960)) (Some (plain 256 261 r ∷ []))
-    ∷ step 0 (Touch 258 Write) (Ok (Signal AccErr)) None
-    ∷ step 0 (Map 1060864 4096 r 50 (negsuc 0) 0) (Ok (Returned 1060864)) (Some (plain 256 261 r ∷ []))
-    ∷ step 0 (Touch 259 Read) (Ok (Serves 256 261 r false 0)) None
-    ∷ step 1 (Remap 1048576 20480 12288 1 0) (Ok (Returned 1048576)) (Some (plain 256 259 r ∷ []))
-    ∷ step 1 (Unmap 1048576 4096) (Ok (Returned 0)) (Some (plain 257 259 r ∷ []))
-    ∷ step 1 (Protect 1052672 8192 r) (Ok (Returned 0)) (Some (plain 257 259 r ∷ []))
-    ∷ step 1 (Map 1056768 12288 rw 50 (negsuc 0) 0) (Ok (Returned 1056768)) (Some (plain 257 258 r ∷ plain 258 261 rw ∷ []))
-    ∷ step 1 (Map 1056768 4096 rw 50 (negsuc 0) 0) (Ok (Returned 1056768)) (Some (plain 257 258 r ∷ plain 258 261 rw ∷ []))
-    ∷ step 1 (Touch 260 Write) (Ok (Serves 258 261 rw false 0)) None
-    ∷ step 0 (Touch 258 Write) (Ok (Signal AccErr)) None
-    ∷ step 1 (Protect 1048576 8192 rw) (Err 12) (Some (plain 257 258 r ∷ plain 258 261 rw ∷ []))
-    ∷ step 1 (Touch 259 Write) (Ok (Serves 258 261 rw false 0)) None
-    ∷ step 0 (Map 1060864 8192 r 50 (negsuc 0) 0) (Ok (Returned 1060864)) (Some (plain 256 261 r ∷ []))
-    ∷ step 0 (Fork 2) (Ok (Returned 0)) None
-    ∷ step 0 (Touch 257 Write) (Ok (Signal AccErr)) None
-    ∷ step 0 (Touch 258 Write) (Ok (Signal AccErr)) None
-    ∷ step 1 (Remap 1052672 4096 4096 7 1048576) (Ok (Returned 1048576)) (Some (plain 256 258 r ∷ plain 258 261 rw ∷ []))
-    ∷ step 0 (Protect 1064960 4096 r) (Ok (Returned 0)) (Some (plain 256 261 r ∷ []))
-    ∷ step 0 (Touch 257 Write) (Ok (Signal AccErr)) (Some (plain 256 261 r ∷ []))
+    kernel_step 0 (Map 1048576 16384 r 50 (negsuc 0) 0) (Ok (Returned 1048576)) (Some (plain 256 260 r ∷ []))
+    ∷ kernel_step 0 (Map 1052672 16384 r 50 (negsuc 0) 0) (Ok (Returned 1052672)) (Some (plain 256 261 r ∷ []))
+    ∷ kernel_step 0 (Touch 259 Write) (Ok (Signal AccErr)) None
+    ∷ kernel_step 0 (Touch 257 Write) (Ok (Signal AccErr)) None
+    ∷ kernel_step 0 (Map 1056768 12288 r 50 (negsuc 0) 0) (Ok (Returned 1056768)) (Some (plain 256 261 r ∷ []))
+    ∷ kernel_step 0 (Map 1060864 4096 r 50 (negsuc 0) 0) (Ok (Returned 1060864)) (Some (plain 256 261 r ∷ []))
+    ∷ kernel_step 0 (Fork 1) (Ok (Returned 0)) None
+    ∷ kernel_step 0 (Touch 257 Write) (Ok (Signal AccErr)) None
+    ∷ kernel_step 0 (Touch 260 Write) (Ok (Signal AccErr)) None
+    ∷ kernel_step 0 (Touch 257 Read) (Ok (Serves 256 261 r false 0)) None
+    ∷ kernel_step 0 (Map 1064960 4096 r 50 (negsuc 0) 0) (Ok (Returned 1064960)) (Some (plain 256 261 r ∷ []))
+    ∷ kernel_step 0 (Touch 258 Write) (Ok (Signal AccErr)) None
+    ∷ kernel_step 0 (Map 1060864 4096 r 50 (negsuc 0) 0) (Ok (Returned 1060864)) (Some (plain 256 261 r ∷ []))
+    ∷ kernel_step 0 (Touch 259 Read) (Ok (Serves 256 261 r false 0)) None
+    ∷ kernel_step 1 (Remap 1048576 20480 12288 1 0) (Ok (Returned 1048576)) (Some (plain 256 259 r ∷ []))
+    ∷ kernel_step 1 (Unmap 1048576 4096) (Ok (Returned 0)) (Some (plain 257 259 r ∷ []))
+    ∷ kernel_step 1 (Protect 1052672 8192 r) (Ok (Returned 0)) (Some (plain 257 259 r ∷ []))
+    ∷ kernel_step 1 (Map 1056768 12288 rw 50 (negsuc 0) 0) (Ok (Returned 1056768)) (Some (plain 257 258 r ∷ plain 258 261 rw ∷ []))
+    ∷ kernel_step 1 (Map 1056768 4096 rw 50 (negsuc 0) 0) (Ok (Returned 1056768)) (Some (plain 257 258 r ∷ plain 258 261 rw ∷ []))
+    ∷ kernel_step 1 (Touch 260 Write) (Ok (Serves 258 261 rw false 0)) None
+    ∷ kernel_step 0 (Touch 258 Write) (Ok (Signal AccErr)) None
+    ∷ kernel_step 1 (Protect 1048576 8192 rw) (Err 12) (Some (plain 257 258 r ∷ plain 258 261 rw ∷ []))
+    ∷ kernel_step 1 (Touch 259 Write) (Ok (Serves 258 261 rw false 0)) None
+    ∷ kernel_step 0 (Map 1060864 8192 r 50 (negsuc 0) 0) (Ok (Returned 1060864)) (Some (plain 256 261 r ∷ []))
+    ∷ kernel_step 0 (Fork 2) (Ok (Returned 0)) None
+    ∷ kernel_step 0 (Touch 257 Write) (Ok (Signal AccErr)) None
+    ∷ kernel_step 0 (Touch 258 Write) (Ok (Signal AccErr)) None
+    ∷ kernel_step 1 (Remap 1052672 4096 4096 7 1048576) (Ok (Returned 1048576)) (Some (plain 256 258 r ∷ plain 258 261 rw ∷ []))
+    ∷ kernel_step 0 (Protect 1064960 4096 r) (Ok (Returned 0)) (Some (plain 256 261 r ∷ []))
+    ∷ kernel_step 0 (Touch 257 Write) (Ok (Signal AccErr)) (Some (plain 256 261 r ∷ []))
     ∷ []
 
 -- directed_anon_vma_of_the_next_first: the kernel
@@ -1324,15 +1334,15 @@ directed_anon_vma_of_the_next_first_on = record { rules = linux_6_18; machine = 
 -- directed_anon_vma_of_the_next_first: its answers
 abbrev pub directed_anon_vma_of_the_next_first : List Step
 directed_anon_vma_of_the_next_first =
-    step 0 (Map 1048576 4096 rw 50 (negsuc 0) 0) (Ok (Returned 1048576)) None
-    ∷ step 0 (Map 1056768 4096 rw 50 (negsuc 0) 0) (Ok (Returned 1056768)) None
-    ∷ step 0 (Touch 256 Write) (Ok (Serves 256 257 rw false 0)) None
-    ∷ step 0 (Touch 258 Write) (Ok (Serves 258 259 rw false 0)) None
-    ∷ step 0 (Protect 1048576 4096 r) (Ok (Returned 0)) None
-    ∷ step 0 (Protect 1056768 4096 r) (Ok (Returned 0)) None
-    ∷ step 0 (Map 1052672 4096 rw 50 (negsuc 0) 0) (Ok (Returned 1052672)) None
-    ∷ step 0 (Touch 257 Write) (Ok (Serves 257 258 rw false 0)) None
-    ∷ step 0 (Protect 1052672 4096 r) (Ok (Returned 0)) (Some (plain 256 257 r ∷ plain 257 259 r ∷ []))
+    kernel_step 0 (Map 1048576 4096 rw 50 (negsuc 0) 0) (Ok (Returned 1048576)) None
+    ∷ kernel_step 0 (Map 1056768 4096 rw 50 (negsuc 0) 0) (Ok (Returned 1056768)) None
+    ∷ kernel_step 0 (Touch 256 Write) (Ok (Serves 256 257 rw false 0)) None
+    ∷ kernel_step 0 (Touch 258 Write) (Ok (Serves 258 259 rw false 0)) None
+    ∷ kernel_step 0 (Protect 1048576 4096 r) (Ok (Returned 0)) None
+    ∷ kernel_step 0 (Protect 1056768 4096 r) (Ok (Returned 0)) None
+    ∷ kernel_step 0 (Map 1052672 4096 rw 50 (negsuc 0) 0) (Ok (Returned 1052672)) None
+    ∷ kernel_step 0 (Touch 257 Write) (Ok (Serves 257 258 rw false 0)) None
+    ∷ kernel_step 0 (Protect 1052672 4096 r) (Ok (Returned 0)) (Some (plain 256 257 r ∷ plain 257 259 r ∷ []))
     ∷ []
 
 -- directed_refused_growth_counts_as_written: the kernel
@@ -1342,13 +1352,13 @@ directed_refused_growth_counts_as_written_on = record { rules = linux_6_18; mach
 -- directed_refused_growth_counts_as_written: its answers
 abbrev pub directed_refused_growth_counts_as_written : List Step
 directed_refused_growth_counts_as_written =
-    step 0 (Map 16777216 8388608 rw 306 (negsuc 0) 0) (Ok (Returned 16777216)) None
-    ∷ step 0 (Touch 4095 Write) (Ok (Signal MapErr)) None
-    ∷ step 0 (Protect 16777216 8388608 r) (Ok (Returned 0)) None
-    ∷ step 0 (Map 25165824 4096 r 306 (negsuc 0) 0) (Ok (Returned 25165824)) (Some (plain 4096 6144 r ∷ plain 6144 6145 r ∷ []))
-    ∷ step 0 (Map 50331648 8388608 rw 306 (negsuc 0) 0) (Ok (Returned 50331648)) None
-    ∷ step 0 (Protect 50331648 8388608 r) (Ok (Returned 0)) None
-    ∷ step 0 (Map 58720256 4096 r 306 (negsuc 0) 0) (Ok (Returned 58720256)) (Some (plain 4096 6144 r ∷ plain 6144 6145 r ∷ plain 12288 14337 r ∷ []))
+    kernel_step 0 (Map 16777216 8388608 rw 306 (negsuc 0) 0) (Ok (Returned 16777216)) None
+    ∷ kernel_step 0 (Touch 4095 Write) (Ok (Signal MapErr)) None
+    ∷ kernel_step 0 (Protect 16777216 8388608 r) (Ok (Returned 0)) None
+    ∷ kernel_step 0 (Map 25165824 4096 r 306 (negsuc 0) 0) (Ok (Returned 25165824)) (Some (plain 4096 6144 r ∷ plain 6144 6145 r ∷ []))
+    ∷ kernel_step 0 (Map 50331648 8388608 rw 306 (negsuc 0) 0) (Ok (Returned 50331648)) None
+    ∷ kernel_step 0 (Protect 50331648 8388608 r) (Ok (Returned 0)) None
+    ∷ kernel_step 0 (Map 58720256 4096 r 306 (negsuc 0) 0) (Ok (Returned 58720256)) (Some (plain 4096 6144 r ∷ plain 6144 6145 r ∷ plain 12288 14337 r ∷ []))
     ∷ []
 
 -- directed_written_range_of_a_fork_stays_apart: the kernel
@@ -1358,12 +1368,12 @@ directed_written_range_of_a_fork_stays_apart_on = record { rules = linux_6_18; m
 -- directed_written_range_of_a_fork_stays_apart: its answers
 abbrev pub directed_written_range_of_a_fork_stays_apart : List Step
 directed_written_range_of_a_fork_stays_apart =
-    step 0 (Map 1048576 8192 rw 50 (negsuc 0) 0) (Ok (Returned 1048576)) None
-    ∷ step 0 (Touch 256 Write) (Ok (Serves 256 258 rw false 0)) None
-    ∷ step 0 (Protect 1048576 8192 r) (Ok (Returned 0)) None
-    ∷ step 0 (Fork 1) (Ok (Returned 0)) (Some (plain 256 258 r ∷ []))
-    ∷ step 1 (Map 1056768 4096 rw 50 (negsuc 0) 0) (Ok (Returned 1056768)) None
-    ∷ step 1 (Protect 1052672 4096 rw) (Ok (Returned 0)) (Some (plain 256 257 r ∷ plain 257 258 rw ∷ plain 258 259 rw ∷ []))
+    kernel_step 0 (Map 1048576 8192 rw 50 (negsuc 0) 0) (Ok (Returned 1048576)) None
+    ∷ kernel_step 0 (Touch 256 Write) (Ok (Serves 256 258 rw false 0)) None
+    ∷ kernel_step 0 (Protect 1048576 8192 r) (Ok (Returned 0)) None
+    ∷ kernel_step 0 (Fork 1) (Ok (Returned 0)) (Some (plain 256 258 r ∷ []))
+    ∷ kernel_step 1 (Map 1056768 4096 rw 50 (negsuc 0) 0) (Ok (Returned 1056768)) None
+    ∷ kernel_step 1 (Protect 1052672 4096 rw) (Ok (Returned 0)) (Some (plain 256 257 r ∷ plain 257 258 rw ∷ plain 258 259 rw ∷ []))
     ∷ []
 
 -- directed_anon_vma_needs_running_offsets: the kernel
@@ -1373,20 +1383,21 @@ directed_anon_vma_needs_running_offsets_on = record { rules = linux_6_18; machin
 -- directed_anon_vma_needs_running_offsets: its answers
 abbrev pub directed_anon_vma_needs_running_offsets : List Step
 directed_anon_vma_needs_running_offsets =
-    step 0 (Map 1048576 12288 rw 50 (negsuc 0) 0) (Ok (Returned 1048576)) None
-    ∷ step 0 (Touch 256 Write) (Ok (Serves 256 259 rw false 0)) None
-    ∷ step 0 (Remap 1052672 4096 4096 3 2101248) (Ok (Returned 2101248)) None
-    ∷ step 0 (Remap 1056768 4096 4096 3 3145728) (Ok (Returned 3145728)) None
-    ∷ step 0 (Unmap 1048576 4096) (Ok (Returned 0)) None
-    ∷ step 0 (Remap 3145728 4096 4096 3 1052672) (Ok (Returned 1052672)) None
-    ∷ step 0 (Map 1048576 4096 rw 50 (negsuc 0) 0) (Ok (Returned 1048576)) None
-    ∷ step 0 (Touch 256 Write) (Ok (Serves 256 257 rw false 0)) None
-    ∷ step 0 (Remap 2101248 4096 4096 3 1052672) (Ok (Returned 1052672)) (Some (plain 256 257 rw ∷ plain 257 258 rw ∷ []))
+    kernel_step 0 (Map 1048576 12288 rw 50 (negsuc 0) 0) (Ok (Returned 1048576)) None
+    ∷ kernel_step 0 (Touch 256 Write) (Ok (Serves 256 259 rw false 0)) None
+    ∷ kernel_step 0 (Remap 1052672 4096 4096 3 2101248) (Ok (Returned 2101248)) None
+    ∷ kernel_step 0 (Remap 1056768 4096 4096 3 3145728) (Ok (Returned 3145728)) None
+    ∷ kernel_step 0 (Unmap 1048576 4096) (Ok (Returned 0)) None
+    ∷ kernel_step 0 (Remap 3145728 4096 4096 3 1052672) (Ok (Returned 1052672)) None
+    ∷ kernel_step 0 (Map 1048576 4096 rw 50 (negsuc 0) 0) (Ok (Returned 1048576)) None
+    ∷ kernel_step 0 (Touch 256 Write) (Ok (Serves 256 257 rw false 0)) None
+    ∷ kernel_step 0 (Remap 2101248 4096 4096 3 1052672) (Ok (Returned 1052672)) (Some (plain 256 257 rw ∷ plain 257 258 rw ∷ []))
     ∷ []
 
 -- The definitions answer all of these traces as Linux 6.18.44 did.
 pub record AllOfLinux_6_18 : Type 0 where
   pub brk_beside_plain_memory_holds : IsAsRecorded brk_beside_plain_memory_on brk_beside_plain_memory
+  pub brk_greatest_holds : IsAsRecorded brk_greatest_on brk_greatest
   pub files_later_write_of_a_shared_readable_holds : IsAsRecorded files_later_write_of_a_shared_readable_on files_later_write_of_a_shared_readable
   pub files_shared_anonymous_split_holds : IsAsRecorded files_shared_anonymous_split_on files_shared_anonymous_split
   pub fork_eight_holds : IsAsRecorded fork_eight_on fork_eight

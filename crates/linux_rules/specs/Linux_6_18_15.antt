@@ -5,7 +5,7 @@ use Rattle.linux_rules.specs.declared.kernel.Kernel.{Kernel}
 use Rattle.linux_rules.specs.declared.kernel.Vsyscall.TheVariants.{Xonly}
 use Rattle.linux_rules.specs.declared.verdict.LinuxVerdict.TheVariants.{MapErr, AccErr, PkuErr, BusErr}
 use Rattle.linux_rules.specs.Versions.{linux_6_18_15}
-use Rattle.linux_rules.specs.Steps.{Map, Unmap, Protect, Remap, Break, Seal, Touch, Fork, Returned, Serves, Signal, Step, none, r, x, rw, rwx, plain, heap, filed, step, file_row, config}
+use Rattle.linux_rules.specs.Steps.{Map, Unmap, Protect, Remap, Break, Seal, Touch, Fork, Returned, Serves, Signal, Step, none, r, x, rw, rwx, plain, heap, filed, kernel_step, file_row, config}
 use Rattle.linux_rules.specs.Recorded.{IsAsRecorded}
 
 -- brk_beside_plain_memory: the kernel
@@ -15,8 +15,8 @@ brk_beside_plain_memory_on = record { rules = linux_6_18_15; machine = record { 
 -- brk_beside_plain_memory: its answers
 abbrev pub brk_beside_plain_memory : List Step
 brk_beside_plain_memory =
-    step 0 (Map 1044480 4096 rw 50 (negsuc 0) 0) (Ok (Returned 1044480)) None
-    ∷ step 0 (Break 1052672) (Ok (Returned 1052672)) (Some (plain 255 256 rw ∷ heap 256 257 rw ∷ []))
+    kernel_step 0 (Map 1044480 4096 rw 50 (negsuc 0) 0) (Ok (Returned 1044480)) None
+    ∷ kernel_step 0 (Break 1052672) (Ok (Returned 1052672)) (Some (plain 255 256 rw ∷ heap 256 257 rw ∷ []))
     ∷ []
 
 -- brk_raise_beside_a_sealed_page: the kernel
@@ -26,9 +26,9 @@ brk_raise_beside_a_sealed_page_on = record { rules = linux_6_18_15; machine = re
 -- brk_raise_beside_a_sealed_page: its answers
 abbrev pub brk_raise_beside_a_sealed_page : List Step
 brk_raise_beside_a_sealed_page =
-    step 0 (Break 1052672) (Ok (Returned 1052672)) None
-    ∷ step 0 (Seal 1048576 4096 0) (Ok (Returned 0)) None
-    ∷ step 0 (Break 1056768) (Ok (Returned 1056768)) (Some (heap 256 257 rw ∷ heap 257 258 rw ∷ []))
+    kernel_step 0 (Break 1052672) (Ok (Returned 1052672)) None
+    ∷ kernel_step 0 (Seal 1048576 4096 0) (Ok (Returned 0)) None
+    ∷ kernel_step 0 (Break 1056768) (Ok (Returned 1056768)) (Some (heap 256 257 rw ∷ heap 257 258 rw ∷ []))
     ∷ []
 
 -- faults_after_a_partial_mprotect: the kernel
@@ -38,9 +38,9 @@ faults_after_a_partial_mprotect_on = record { rules = linux_6_18_15; machine = r
 -- faults_after_a_partial_mprotect: its answers
 abbrev pub faults_after_a_partial_mprotect : List Step
 faults_after_a_partial_mprotect =
-    step 0 (Map 131072 4096 rw 50 (negsuc 0) 0) (Ok (Returned 131072)) None
-    ∷ step 0 (Protect 131072 8192 r) (Err 12) None
-    ∷ step 0 (Touch 32 Write) (Ok (Signal AccErr)) (Some (plain 32 33 r ∷ []))
+    kernel_step 0 (Map 131072 4096 rw 50 (negsuc 0) 0) (Ok (Returned 131072)) None
+    ∷ kernel_step 0 (Protect 131072 8192 r) (Err 12) None
+    ∷ kernel_step 0 (Touch 32 Write) (Ok (Signal AccErr)) (Some (plain 32 33 r ∷ []))
     ∷ []
 
 -- faults_after_a_refused_call: the kernel
@@ -50,9 +50,9 @@ faults_after_a_refused_call_on = record { rules = linux_6_18_15; machine = recor
 -- faults_after_a_refused_call: its answers
 abbrev pub faults_after_a_refused_call : List Step
 faults_after_a_refused_call =
-    step 0 (Map 131072 4096 rw 50 (negsuc 0) 0) (Ok (Returned 131072)) None
-    ∷ step 0 (Protect 131073 4096 r) (Err 22) None
-    ∷ step 0 (Touch 32 Write) (Ok (Serves 32 33 rw false 0)) (Some (plain 32 33 rw ∷ []))
+    kernel_step 0 (Map 131072 4096 rw 50 (negsuc 0) 0) (Ok (Returned 131072)) None
+    ∷ kernel_step 0 (Protect 131073 4096 r) (Err 22) None
+    ∷ kernel_step 0 (Touch 32 Write) (Ok (Serves 32 33 rw false 0)) (Some (plain 32 33 rw ∷ []))
     ∷ []
 
 -- faults_read_of_execute_only: the kernel
@@ -62,8 +62,8 @@ faults_read_of_execute_only_on = record { rules = linux_6_18_15; machine = recor
 -- faults_read_of_execute_only: its answers
 abbrev pub faults_read_of_execute_only : List Step
 faults_read_of_execute_only =
-    step 0 (Map 131072 4096 x 50 (negsuc 0) 0) (Ok (Returned 131072)) None
-    ∷ step 0 (Touch 32 Read) (Ok (Signal PkuErr)) (Some (plain 32 33 x ∷ []))
+    kernel_step 0 (Map 131072 4096 x 50 (negsuc 0) 0) (Ok (Returned 131072)) None
+    ∷ kernel_step 0 (Touch 32 Read) (Ok (Signal PkuErr)) (Some (plain 32 33 x ∷ []))
     ∷ []
 
 -- faults_shared_memory_has_no_end: the kernel
@@ -73,9 +73,9 @@ faults_shared_memory_has_no_end_on = record { rules = linux_6_18_15; machine = r
 -- faults_shared_memory_has_no_end: its answers
 abbrev pub faults_shared_memory_has_no_end : List Step
 faults_shared_memory_has_no_end =
-    step 0 (Map 131072 4096 rw 49 (negsuc 0) 0) (Ok (Returned 131072)) None
-    ∷ step 0 (Remap 131072 4096 8192 0 0) (Ok (Returned 131072)) None
-    ∷ step 0 (Touch 33 Write) (Ok (Signal BusErr)) (Some (filed 32 34 rw true 0 1 ∷ []))
+    kernel_step 0 (Map 131072 4096 rw 49 (negsuc 0) 0) (Ok (Returned 131072)) None
+    ∷ kernel_step 0 (Remap 131072 4096 8192 0 0) (Ok (Returned 131072)) None
+    ∷ kernel_step 0 (Touch 33 Write) (Ok (Signal BusErr)) (Some (filed 32 34 rw true 0 1 ∷ []))
     ∷ []
 
 -- faults_write_of_execute_only: the kernel
@@ -85,8 +85,8 @@ faults_write_of_execute_only_on = record { rules = linux_6_18_15; machine = reco
 -- faults_write_of_execute_only: its answers
 abbrev pub faults_write_of_execute_only : List Step
 faults_write_of_execute_only =
-    step 0 (Map 131072 4096 x 50 (negsuc 0) 0) (Ok (Returned 131072)) None
-    ∷ step 0 (Touch 32 Write) (Ok (Signal PkuErr)) (Some (plain 32 33 x ∷ []))
+    kernel_step 0 (Map 131072 4096 x 50 (negsuc 0) 0) (Ok (Returned 131072)) None
+    ∷ kernel_step 0 (Touch 32 Write) (Ok (Signal PkuErr)) (Some (plain 32 33 x ∷ []))
     ∷ []
 
 -- files_later_write_of_a_shared_readable: the kernel
@@ -96,8 +96,8 @@ files_later_write_of_a_shared_readable_on = record { rules = linux_6_18_15; mach
 -- files_later_write_of_a_shared_readable: its answers
 abbrev pub files_later_write_of_a_shared_readable : List Step
 files_later_write_of_a_shared_readable =
-    step 0 (Map 0 8192 r 1 (pos 3) 0) (Ok (Returned 140737354125312)) None
-    ∷ step 0 (Protect 140737354125312 4096 rw) (Err 13) (Some (filed 34359705597 34359705599 r true 0 1 ∷ []))
+    kernel_step 0 (Map 0 8192 r 1 (pos 3) 0) (Ok (Returned 140737354125312)) None
+    ∷ kernel_step 0 (Protect 140737354125312 4096 rw) (Err 13) (Some (filed 34359705597 34359705599 r true 0 1 ∷ []))
     ∷ []
 
 -- files_private_of_a_writable_only: the kernel
@@ -107,7 +107,7 @@ files_private_of_a_writable_only_on = record { rules = linux_6_18_15; machine = 
 -- files_private_of_a_writable_only: its answers
 abbrev pub files_private_of_a_writable_only : List Step
 files_private_of_a_writable_only =
-    step 0 (Map 0 8192 r 2 (pos 3) 0) (Err 13) (Some ([]))
+    kernel_step 0 (Map 0 8192 r 2 (pos 3) 0) (Err 13) (Some ([]))
     ∷ []
 
 -- files_shared_anonymous_may_have_any_access: the kernel
@@ -117,8 +117,8 @@ files_shared_anonymous_may_have_any_access_on = record { rules = linux_6_18_15; 
 -- files_shared_anonymous_may_have_any_access: its answers
 abbrev pub files_shared_anonymous_may_have_any_access : List Step
 files_shared_anonymous_may_have_any_access =
-    step 0 (Map 131072 4096 r 49 (negsuc 0) 0) (Ok (Returned 131072)) None
-    ∷ step 0 (Protect 131072 4096 rwx) (Ok (Returned 0)) (Some (filed 32 33 rwx true 0 1 ∷ []))
+    kernel_step 0 (Map 131072 4096 r 49 (negsuc 0) 0) (Ok (Returned 131072)) None
+    ∷ kernel_step 0 (Protect 131072 4096 rwx) (Ok (Returned 0)) (Some (filed 32 33 rwx true 0 1 ∷ []))
     ∷ []
 
 -- files_shared_anonymous_refused_takes_no_number: the kernel
@@ -128,9 +128,9 @@ files_shared_anonymous_refused_takes_no_number_on = record { rules = linux_6_18_
 -- files_shared_anonymous_refused_takes_no_number: its answers
 abbrev pub files_shared_anonymous_refused_takes_no_number : List Step
 files_shared_anonymous_refused_takes_no_number =
-    step 0 (Map 131072 4096 rw 49 (negsuc 0) 0) (Ok (Returned 131072)) None
-    ∷ step 0 (Map 131073 4096 rw 49 (negsuc 0) 0) (Err 22) None
-    ∷ step 0 (Map 196608 4096 rw 49 (negsuc 0) 0) (Ok (Returned 196608)) (Some (filed 32 33 rw true 0 1 ∷ filed 48 49 rw true 0 2 ∷ []))
+    kernel_step 0 (Map 131072 4096 rw 49 (negsuc 0) 0) (Ok (Returned 131072)) None
+    ∷ kernel_step 0 (Map 131073 4096 rw 49 (negsuc 0) 0) (Err 22) None
+    ∷ kernel_step 0 (Map 196608 4096 rw 49 (negsuc 0) 0) (Ok (Returned 196608)) (Some (filed 32 33 rw true 0 1 ∷ filed 48 49 rw true 0 2 ∷ []))
     ∷ []
 
 -- fork_eight: the kernel
@@ -140,15 +140,15 @@ fork_eight_on = record { rules = linux_6_18_15; machine = record { lowest_built 
 -- fork_eight: its answers
 abbrev pub fork_eight : List Step
 fork_eight =
-    step 0 (Fork 1) (Ok (Returned 0)) None
-    ∷ step 0 (Fork 2) (Ok (Returned 0)) None
-    ∷ step 0 (Fork 3) (Ok (Returned 0)) None
-    ∷ step 0 (Fork 4) (Ok (Returned 0)) None
-    ∷ step 0 (Fork 5) (Ok (Returned 0)) None
-    ∷ step 0 (Fork 6) (Ok (Returned 0)) None
-    ∷ step 0 (Fork 7) (Ok (Returned 0)) None
-    ∷ step 0 (Fork 8) (Ok (Returned 0)) (Some ([]))
-    ∷ step 8 (Touch 32 Read) (Ok (Signal MapErr)) (Some ([]))
+    kernel_step 0 (Fork 1) (Ok (Returned 0)) None
+    ∷ kernel_step 0 (Fork 2) (Ok (Returned 0)) None
+    ∷ kernel_step 0 (Fork 3) (Ok (Returned 0)) None
+    ∷ kernel_step 0 (Fork 4) (Ok (Returned 0)) None
+    ∷ kernel_step 0 (Fork 5) (Ok (Returned 0)) None
+    ∷ kernel_step 0 (Fork 6) (Ok (Returned 0)) None
+    ∷ kernel_step 0 (Fork 7) (Ok (Returned 0)) None
+    ∷ kernel_step 0 (Fork 8) (Ok (Returned 0)) (Some ([]))
+    ∷ kernel_step 8 (Touch 32 Read) (Ok (Signal MapErr)) (Some ([]))
     ∷ []
 
 -- fork_order_of_children: the kernel
@@ -158,10 +158,10 @@ fork_order_of_children_on = record { rules = linux_6_18_15; machine = record { l
 -- fork_order_of_children: its answers
 abbrev pub fork_order_of_children : List Step
 fork_order_of_children =
-    step 0 (Fork 9) (Ok (Returned 0)) None
-    ∷ step 0 (Fork 8) (Ok (Returned 0)) (Some ([]))
-    ∷ step 8 (Map 131072 4096 r 50 (negsuc 0) 0) (Ok (Returned 131072)) (Some (plain 32 33 r ∷ []))
-    ∷ step 9 (Map 196608 4096 r 50 (negsuc 0) 0) (Ok (Returned 196608)) (Some (plain 48 49 r ∷ []))
+    kernel_step 0 (Fork 9) (Ok (Returned 0)) None
+    ∷ kernel_step 0 (Fork 8) (Ok (Returned 0)) (Some ([]))
+    ∷ kernel_step 8 (Map 131072 4096 r 50 (negsuc 0) 0) (Ok (Returned 131072)) (Some (plain 32 33 r ∷ []))
+    ∷ kernel_step 9 (Map 196608 4096 r 50 (negsuc 0) 0) (Ok (Returned 196608)) (Some (plain 48 49 r ∷ []))
     ∷ []
 
 -- fork_sealed_later: the kernel
@@ -171,11 +171,11 @@ fork_sealed_later_on = record { rules = linux_6_18_15; machine = record { lowest
 -- fork_sealed_later: its answers
 abbrev pub fork_sealed_later : List Step
 fork_sealed_later =
-    step 0 (Map 131072 4096 rw 50 (negsuc 0) 0) (Ok (Returned 131072)) None
-    ∷ step 0 (Fork 7) (Ok (Returned 0)) None
-    ∷ step 0 (Seal 131072 4096 0) (Ok (Returned 0)) None
-    ∷ step 7 (Unmap 131072 4096) (Ok (Returned 0)) (Some ([]))
-    ∷ step 0 (Unmap 131072 4096) (Err 1) (Some (plain 32 33 rw ∷ []))
+    kernel_step 0 (Map 131072 4096 rw 50 (negsuc 0) 0) (Ok (Returned 131072)) None
+    ∷ kernel_step 0 (Fork 7) (Ok (Returned 0)) None
+    ∷ kernel_step 0 (Seal 131072 4096 0) (Ok (Returned 0)) None
+    ∷ kernel_step 7 (Unmap 131072 4096) (Ok (Returned 0)) (Some ([]))
+    ∷ kernel_step 0 (Unmap 131072 4096) (Err 1) (Some (plain 32 33 rw ∷ []))
     ∷ []
 
 -- fork_two_children: the kernel
@@ -185,12 +185,12 @@ fork_two_children_on = record { rules = linux_6_18_15; machine = record { lowest
 -- fork_two_children: its answers
 abbrev pub fork_two_children : List Step
 fork_two_children =
-    step 0 (Map 131072 4096 rw 50 (negsuc 0) 0) (Ok (Returned 131072)) None
-    ∷ step 0 (Fork 7) (Ok (Returned 0)) None
-    ∷ step 0 (Fork 8) (Ok (Returned 0)) (Some (plain 32 33 rw ∷ []))
-    ∷ step 7 (Protect 131072 4096 r) (Ok (Returned 0)) None
-    ∷ step 8 (Touch 32 Write) (Ok (Serves 32 33 rw false 0)) (Some (plain 32 33 rw ∷ []))
-    ∷ step 7 (Touch 32 Write) (Ok (Signal AccErr)) (Some (plain 32 33 r ∷ []))
+    kernel_step 0 (Map 131072 4096 rw 50 (negsuc 0) 0) (Ok (Returned 131072)) None
+    ∷ kernel_step 0 (Fork 7) (Ok (Returned 0)) None
+    ∷ kernel_step 0 (Fork 8) (Ok (Returned 0)) (Some (plain 32 33 rw ∷ []))
+    ∷ kernel_step 7 (Protect 131072 4096 r) (Ok (Returned 0)) None
+    ∷ kernel_step 8 (Touch 32 Write) (Ok (Serves 32 33 rw false 0)) (Some (plain 32 33 rw ∷ []))
+    ∷ kernel_step 7 (Touch 32 Write) (Ok (Signal AccErr)) (Some (plain 32 33 r ∷ []))
     ∷ []
 
 -- fork_versions: the kernel
@@ -200,11 +200,11 @@ fork_versions_on = record { rules = linux_6_18_15; machine = record { lowest_bui
 -- fork_versions: its answers
 abbrev pub fork_versions : List Step
 fork_versions =
-    step 0 (Map 131072 4096 r 50 (negsuc 0) 0) (Ok (Returned 131072)) None
-    ∷ step 0 (Map 196608 4096 r 50 (negsuc 0) 0) (Ok (Returned 196608)) None
-    ∷ step 0 (Fork 7) (Ok (Returned 0)) (Some (plain 32 33 r ∷ plain 48 49 r ∷ []))
-    ∷ step 7 (Touch 32 Read) (Ok (Serves 32 33 r false 0)) None
-    ∷ step 7 (Unmap 131072 4096) (Ok (Returned 0)) (Some (plain 48 49 r ∷ []))
+    kernel_step 0 (Map 131072 4096 r 50 (negsuc 0) 0) (Ok (Returned 131072)) None
+    ∷ kernel_step 0 (Map 196608 4096 r 50 (negsuc 0) 0) (Ok (Returned 196608)) None
+    ∷ kernel_step 0 (Fork 7) (Ok (Returned 0)) (Some (plain 32 33 r ∷ plain 48 49 r ∷ []))
+    ∷ kernel_step 7 (Touch 32 Read) (Ok (Serves 32 33 r false 0)) None
+    ∷ kernel_step 7 (Unmap 131072 4096) (Ok (Returned 0)) (Some (plain 48 49 r ∷ []))
     ∷ []
 
 -- growing_next_mapping_goes_below: the kernel
@@ -214,9 +214,9 @@ growing_next_mapping_goes_below_on = record { rules = linux_6_18_15; machine = r
 -- growing_next_mapping_goes_below: its answers
 abbrev pub growing_next_mapping_goes_below : List Step
 growing_next_mapping_goes_below =
-    step 0 (Map 0 4096 rw 290 (negsuc 0) 0) (Ok (Returned 140737354129408)) None
-    ∷ step 0 (Map 0 4096 r 34 (negsuc 0) 0) (Ok (Returned 140737353076736)) None
-    ∷ step 0 (Touch 34359705597 Write) (Ok (Signal MapErr)) (Some (plain 34359705341 34359705342 r ∷ plain 34359705598 34359705599 rw ∷ []))
+    kernel_step 0 (Map 0 4096 rw 290 (negsuc 0) 0) (Ok (Returned 140737354129408)) None
+    ∷ kernel_step 0 (Map 0 4096 r 34 (negsuc 0) 0) (Ok (Returned 140737353076736)) None
+    ∷ kernel_step 0 (Touch 34359705597 Write) (Ok (Signal MapErr)) (Some (plain 34359705341 34359705342 r ∷ plain 34359705598 34359705599 rw ∷ []))
     ∷ []
 
 -- growing_sealed_grows: the kernel
@@ -226,10 +226,10 @@ growing_sealed_grows_on = record { rules = linux_6_18_15; machine = record { low
 -- growing_sealed_grows: its answers
 abbrev pub growing_sealed_grows : List Step
 growing_sealed_grows =
-    step 0 (Map 131072 4096 rw 306 (negsuc 0) 0) (Ok (Returned 131072)) None
-    ∷ step 0 (Seal 131072 4096 0) (Ok (Returned 0)) None
-    ∷ step 0 (Touch 31 Write) (Ok (Serves 31 33 rw false 0)) None
-    ∷ step 0 (Protect 126976 4096 r) (Err 1) (Some (plain 31 33 rw ∷ []))
+    kernel_step 0 (Map 131072 4096 rw 306 (negsuc 0) 0) (Ok (Returned 131072)) None
+    ∷ kernel_step 0 (Seal 131072 4096 0) (Ok (Returned 0)) None
+    ∷ kernel_step 0 (Touch 31 Write) (Ok (Serves 31 33 rw false 0)) None
+    ∷ kernel_step 0 (Protect 126976 4096 r) (Err 1) (Some (plain 31 33 rw ∷ []))
     ∷ []
 
 -- limits_mremap_on_the_way: the kernel
@@ -239,9 +239,9 @@ limits_mremap_on_the_way_on = record { rules = linux_6_18_15; machine = record {
 -- limits_mremap_on_the_way: its answers
 abbrev pub limits_mremap_on_the_way : List Step
 limits_mremap_on_the_way =
-    step 0 (Map 131072 4096 rw 50 (negsuc 0) 0) (Ok (Returned 131072)) None
-    ∷ step 0 (Map 262144 4096 r 50 (negsuc 0) 0) (Ok (Returned 262144)) None
-    ∷ step 0 (Remap 131072 4096 4096 3 262144) (Err 12) (Some (plain 32 33 rw ∷ plain 64 65 r ∷ []))
+    kernel_step 0 (Map 131072 4096 rw 50 (negsuc 0) 0) (Ok (Returned 131072)) None
+    ∷ kernel_step 0 (Map 262144 4096 r 50 (negsuc 0) 0) (Ok (Returned 262144)) None
+    ∷ kernel_step 0 (Remap 131072 4096 4096 3 262144) (Err 12) (Some (plain 32 33 rw ∷ plain 64 65 r ∷ []))
     ∷ []
 
 -- merging_across_a_split: the kernel
@@ -251,10 +251,10 @@ merging_across_a_split_on = record { rules = linux_6_18_15; machine = record { l
 -- merging_across_a_split: its answers
 abbrev pub merging_across_a_split : List Step
 merging_across_a_split =
-    step 0 (Map 131072 16384 rw 50 (negsuc 0) 0) (Ok (Returned 131072)) None
-    ∷ step 0 (Protect 135168 8192 r) (Ok (Returned 0)) None
-    ∷ step 0 (Protect 135168 4096 rw) (Ok (Returned 0)) None
-    ∷ step 0 (Protect 139264 4096 rw) (Ok (Returned 0)) (Some (plain 32 36 rw ∷ []))
+    kernel_step 0 (Map 131072 16384 rw 50 (negsuc 0) 0) (Ok (Returned 131072)) None
+    ∷ kernel_step 0 (Protect 135168 8192 r) (Ok (Returned 0)) None
+    ∷ kernel_step 0 (Protect 135168 4096 rw) (Ok (Returned 0)) None
+    ∷ kernel_step 0 (Protect 139264 4096 rw) (Ok (Returned 0)) (Some (plain 32 36 rw ∷ []))
     ∷ []
 
 -- merging_fills_a_hole_otherwise: the kernel
@@ -264,9 +264,9 @@ merging_fills_a_hole_otherwise_on = record { rules = linux_6_18_15; machine = re
 -- merging_fills_a_hole_otherwise: its answers
 abbrev pub merging_fills_a_hole_otherwise : List Step
 merging_fills_a_hole_otherwise =
-    step 0 (Map 131072 12288 r 18 (pos 3) 0) (Ok (Returned 131072)) None
-    ∷ step 0 (Unmap 135168 4096) (Ok (Returned 0)) None
-    ∷ step 0 (Map 135168 4096 r 18 (pos 3) 8192) (Ok (Returned 135168)) (Some (filed 32 33 r false 0 1 ∷ filed 33 34 r false 8192 1 ∷ filed 34 35 r false 8192 1 ∷ []))
+    kernel_step 0 (Map 131072 12288 r 18 (pos 3) 0) (Ok (Returned 131072)) None
+    ∷ kernel_step 0 (Unmap 135168 4096) (Ok (Returned 0)) None
+    ∷ kernel_step 0 (Map 135168 4096 r 18 (pos 3) 8192) (Ok (Returned 135168)) (Some (filed 32 33 r false 0 1 ∷ filed 33 34 r false 8192 1 ∷ filed 34 35 r false 8192 1 ∷ []))
     ∷ []
 
 -- mmap_descriptor_greatest: the kernel
@@ -276,7 +276,7 @@ mmap_descriptor_greatest_on = record { rules = linux_6_18_15; machine = record {
 -- mmap_descriptor_greatest: its answers
 abbrev pub mmap_descriptor_greatest : List Step
 mmap_descriptor_greatest =
-    step 0 (Map 0 4096 r 1 (pos 2147483647) 0) (Err 9) (Some ([]))
+    kernel_step 0 (Map 0 4096 r 1 (pos 2147483647) 0) (Err 9) (Some ([]))
     ∷ []
 
 -- mmap_offset_overflows: the kernel
@@ -286,7 +286,7 @@ mmap_offset_overflows_on = record { rules = linux_6_18_15; machine = record { lo
 -- mmap_offset_overflows: its answers
 abbrev pub mmap_offset_overflows : List Step
 mmap_offset_overflows =
-    step 0 (Map 0 4096 r 2 (pos 3) 9223372036854771712) (Err 75) (Some ([]))
+    kernel_step 0 (Map 0 4096 r 2 (pos 3) 9223372036854771712) (Err 75) (Some ([]))
     ∷ []
 
 -- mprotect_may_not_be_written: the kernel
@@ -296,8 +296,8 @@ mprotect_may_not_be_written_on = record { rules = linux_6_18_15; machine = recor
 -- mprotect_may_not_be_written: its answers
 abbrev pub mprotect_may_not_be_written : List Step
 mprotect_may_not_be_written =
-    step 0 (Map 131072 8192 r 17 (pos 3) 0) (Ok (Returned 131072)) None
-    ∷ step 0 (Protect 131072 8192 rw) (Err 13) (Some (filed 32 34 r true 0 1 ∷ []))
+    kernel_step 0 (Map 131072 8192 r 17 (pos 3) 0) (Ok (Returned 131072)) None
+    ∷ kernel_step 0 (Protect 131072 8192 rw) (Err 13) (Some (filed 32 34 r true 0 1 ∷ []))
     ∷ []
 
 -- mremap_first_page_not_mapped: the kernel
@@ -307,8 +307,8 @@ mremap_first_page_not_mapped_on = record { rules = linux_6_18_15; machine = reco
 -- mremap_first_page_not_mapped: its answers
 abbrev pub mremap_first_page_not_mapped : List Step
 mremap_first_page_not_mapped =
-    step 0 (Map 135168 4096 rw 50 (negsuc 0) 0) (Ok (Returned 135168)) None
-    ∷ step 0 (Remap 131072 8192 12288 1 0) (Err 14) (Some (plain 33 34 rw ∷ []))
+    kernel_step 0 (Map 135168 4096 rw 50 (negsuc 0) 0) (Ok (Returned 135168)) None
+    ∷ kernel_step 0 (Remap 131072 8192 12288 1 0) (Err 14) (Some (plain 33 34 rw ∷ []))
     ∷ []
 
 -- mremap_limit_grow_in_place: the kernel
@@ -318,8 +318,8 @@ mremap_limit_grow_in_place_on = record { rules = linux_6_18_15; machine = record
 -- mremap_limit_grow_in_place: its answers
 abbrev pub mremap_limit_grow_in_place : List Step
 mremap_limit_grow_in_place =
-    step 0 (Map 131072 4096 rw 50 (negsuc 0) 0) (Ok (Returned 131072)) None
-    ∷ step 0 (Remap 131072 4096 8192 0 0) (Ok (Returned 131072)) (Some (plain 32 34 rw ∷ []))
+    kernel_step 0 (Map 131072 4096 rw 50 (negsuc 0) 0) (Ok (Returned 131072)) None
+    ∷ kernel_step 0 (Remap 131072 4096 8192 0 0) (Ok (Returned 131072)) (Some (plain 32 34 rw ∷ []))
     ∷ []
 
 -- mremap_two_mappings_to_a_place: the kernel
@@ -329,9 +329,9 @@ mremap_two_mappings_to_a_place_on = record { rules = linux_6_18_15; machine = re
 -- mremap_two_mappings_to_a_place: its answers
 abbrev pub mremap_two_mappings_to_a_place : List Step
 mremap_two_mappings_to_a_place =
-    step 0 (Map 131072 4096 rw 50 (negsuc 0) 0) (Ok (Returned 131072)) None
-    ∷ step 0 (Map 135168 4096 r 50 (negsuc 0) 0) (Ok (Returned 135168)) None
-    ∷ step 0 (Remap 131072 8192 8192 3 262144) (Ok (Returned 262144)) (Some (plain 64 65 rw ∷ plain 65 66 r ∷ []))
+    kernel_step 0 (Map 131072 4096 rw 50 (negsuc 0) 0) (Ok (Returned 131072)) None
+    ∷ kernel_step 0 (Map 135168 4096 r 50 (negsuc 0) 0) (Ok (Returned 135168)) None
+    ∷ kernel_step 0 (Remap 131072 8192 8192 3 262144) (Ok (Returned 262144)) (Some (plain 64 65 rw ∷ plain 65 66 r ∷ []))
     ∷ []
 
 -- mseal_fixed_over_it: the kernel
@@ -341,9 +341,9 @@ mseal_fixed_over_it_on = record { rules = linux_6_18_15; machine = record { lowe
 -- mseal_fixed_over_it: its answers
 abbrev pub mseal_fixed_over_it : List Step
 mseal_fixed_over_it =
-    step 0 (Map 131072 8192 rw 50 (negsuc 0) 0) (Ok (Returned 131072)) None
-    ∷ step 0 (Seal 131072 8192 0) (Ok (Returned 0)) None
-    ∷ step 0 (Map 131072 4096 r 50 (negsuc 0) 0) (Err 1) (Some (plain 32 34 rw ∷ []))
+    kernel_step 0 (Map 131072 8192 rw 50 (negsuc 0) 0) (Ok (Returned 131072)) None
+    ∷ kernel_step 0 (Seal 131072 8192 0) (Ok (Returned 0)) None
+    ∷ kernel_step 0 (Map 131072 4096 r 50 (negsuc 0) 0) (Err 1) (Some (plain 32 34 rw ∷ []))
     ∷ []
 
 -- mseal_flag_greatest: the kernel
@@ -353,8 +353,8 @@ mseal_flag_greatest_on = record { rules = linux_6_18_15; machine = record { lowe
 -- mseal_flag_greatest: its answers
 abbrev pub mseal_flag_greatest : List Step
 mseal_flag_greatest =
-    step 0 (Map 131072 4096 rw 50 (negsuc 0) 0) (Ok (Returned 131072)) None
-    ∷ step 0 (Seal 131072 4096 18446744073709551615) (Err 22) (Some (plain 32 33 rw ∷ []))
+    kernel_step 0 (Map 131072 4096 rw 50 (negsuc 0) 0) (Ok (Returned 131072)) None
+    ∷ kernel_step 0 (Seal 131072 4096 18446744073709551615) (Err 22) (Some (plain 32 33 rw ∷ []))
     ∷ []
 
 -- mseal_hole_after: the kernel
@@ -364,9 +364,9 @@ mseal_hole_after_on = record { rules = linux_6_18_15; machine = record { lowest_
 -- mseal_hole_after: its answers
 abbrev pub mseal_hole_after : List Step
 mseal_hole_after =
-    step 0 (Map 131072 4096 rw 50 (negsuc 0) 0) (Ok (Returned 131072)) None
-    ∷ step 0 (Seal 131072 8192 0) (Err 12) None
-    ∷ step 0 (Unmap 131072 4096) (Ok (Returned 0)) (Some ([]))
+    kernel_step 0 (Map 131072 4096 rw 50 (negsuc 0) 0) (Ok (Returned 131072)) None
+    ∷ kernel_step 0 (Seal 131072 8192 0) (Err 12) None
+    ∷ kernel_step 0 (Unmap 131072 4096) (Ok (Returned 0)) (Some ([]))
     ∷ []
 
 -- mseal_limit_comes_first: the kernel
@@ -376,9 +376,9 @@ mseal_limit_comes_first_on = record { rules = linux_6_18_15; machine = record { 
 -- mseal_limit_comes_first: its answers
 abbrev pub mseal_limit_comes_first : List Step
 mseal_limit_comes_first =
-    step 0 (Map 131072 12288 rw 50 (negsuc 0) 0) (Ok (Returned 131072)) None
-    ∷ step 0 (Seal 131072 12288 0) (Ok (Returned 0)) None
-    ∷ step 0 (Unmap 135168 4096) (Err 12) (Some (plain 32 35 rw ∷ []))
+    kernel_step 0 (Map 131072 12288 rw 50 (negsuc 0) 0) (Ok (Returned 131072)) None
+    ∷ kernel_step 0 (Seal 131072 12288 0) (Ok (Returned 0)) None
+    ∷ kernel_step 0 (Unmap 135168 4096) (Err 12) (Some (plain 32 35 rw ∷ []))
     ∷ []
 
 -- mseal_mremap_shrinks_over_a_sealed_tail: the kernel
@@ -388,9 +388,9 @@ mseal_mremap_shrinks_over_a_sealed_tail_on = record { rules = linux_6_18_15; mac
 -- mseal_mremap_shrinks_over_a_sealed_tail: its answers
 abbrev pub mseal_mremap_shrinks_over_a_sealed_tail : List Step
 mseal_mremap_shrinks_over_a_sealed_tail =
-    step 0 (Map 131072 12288 rw 50 (negsuc 0) 0) (Ok (Returned 131072)) None
-    ∷ step 0 (Seal 139264 4096 0) (Ok (Returned 0)) None
-    ∷ step 0 (Remap 131072 12288 4096 0 0) (Err 1) (Some (plain 32 33 rw ∷ plain 33 34 rw ∷ plain 34 35 rw ∷ []))
+    kernel_step 0 (Map 131072 12288 rw 50 (negsuc 0) 0) (Ok (Returned 131072)) None
+    ∷ kernel_step 0 (Seal 139264 4096 0) (Ok (Returned 0)) None
+    ∷ kernel_step 0 (Remap 131072 12288 4096 0 0) (Err 1) (Some (plain 32 33 rw ∷ plain 33 34 rw ∷ plain 34 35 rw ∷ []))
     ∷ []
 
 -- mseal_munmap_refused_otherwise: the kernel
@@ -400,10 +400,10 @@ mseal_munmap_refused_otherwise_on = record { rules = linux_6_18_15; machine = re
 -- mseal_munmap_refused_otherwise: its answers
 abbrev pub mseal_munmap_refused_otherwise : List Step
 mseal_munmap_refused_otherwise =
-    step 0 (Map 131072 4096 rw 50 (negsuc 0) 0) (Ok (Returned 131072)) None
-    ∷ step 0 (Seal 131072 4096 0) (Ok (Returned 0)) None
-    ∷ step 0 (Unmap 131072 0) (Err 22) None
-    ∷ step 0 (Unmap 131073 4096) (Err 22) (Some (plain 32 33 rw ∷ []))
+    kernel_step 0 (Map 131072 4096 rw 50 (negsuc 0) 0) (Ok (Returned 131072)) None
+    ∷ kernel_step 0 (Seal 131072 4096 0) (Ok (Returned 0)) None
+    ∷ kernel_step 0 (Unmap 131072 0) (Err 22) None
+    ∷ kernel_step 0 (Unmap 131073 4096) (Err 22) (Some (plain 32 33 rw ∷ []))
     ∷ []
 
 -- mseal_part_then_all: the kernel
@@ -413,9 +413,9 @@ mseal_part_then_all_on = record { rules = linux_6_18_15; machine = record { lowe
 -- mseal_part_then_all: its answers
 abbrev pub mseal_part_then_all : List Step
 mseal_part_then_all =
-    step 0 (Map 131072 12288 rw 50 (negsuc 0) 0) (Ok (Returned 131072)) None
-    ∷ step 0 (Seal 135168 4096 0) (Ok (Returned 0)) None
-    ∷ step 0 (Seal 131072 12288 0) (Ok (Returned 0)) (Some (plain 32 34 rw ∷ plain 34 35 rw ∷ []))
+    kernel_step 0 (Map 131072 12288 rw 50 (negsuc 0) 0) (Ok (Returned 131072)) None
+    ∷ kernel_step 0 (Seal 135168 4096 0) (Ok (Returned 0)) None
+    ∷ kernel_step 0 (Seal 131072 12288 0) (Ok (Returned 0)) (Some (plain 32 34 rw ∷ plain 34 35 rw ∷ []))
     ∷ []
 
 -- munmap_limit_cut_at_the_end: the kernel
@@ -425,8 +425,8 @@ munmap_limit_cut_at_the_end_on = record { rules = linux_6_18_15; machine = recor
 -- munmap_limit_cut_at_the_end: its answers
 abbrev pub munmap_limit_cut_at_the_end : List Step
 munmap_limit_cut_at_the_end =
-    step 0 (Map 131072 12288 r 50 (negsuc 0) 0) (Ok (Returned 131072)) None
-    ∷ step 0 (Unmap 139264 4096) (Ok (Returned 0)) (Some (plain 32 34 r ∷ []))
+    kernel_step 0 (Map 131072 12288 r 50 (negsuc 0) 0) (Ok (Returned 131072)) None
+    ∷ kernel_step 0 (Unmap 139264 4096) (Ok (Returned 0)) (Some (plain 32 34 r ∷ []))
     ∷ []
 
 -- munmap_limit_refused_keeps: the kernel
@@ -436,9 +436,9 @@ munmap_limit_refused_keeps_on = record { rules = linux_6_18_15; machine = record
 -- munmap_limit_refused_keeps: its answers
 abbrev pub munmap_limit_refused_keeps : List Step
 munmap_limit_refused_keeps =
-    step 0 (Map 131072 12288 r 50 (negsuc 0) 0) (Ok (Returned 131072)) None
-    ∷ step 0 (Map 196608 4096 r 50 (negsuc 0) 0) (Ok (Returned 196608)) None
-    ∷ step 0 (Unmap 135168 4096) (Err 12) (Some (plain 32 35 r ∷ plain 48 49 r ∷ []))
+    kernel_step 0 (Map 131072 12288 r 50 (negsuc 0) 0) (Ok (Returned 131072)) None
+    ∷ kernel_step 0 (Map 196608 4096 r 50 (negsuc 0) 0) (Ok (Returned 196608)) None
+    ∷ kernel_step 0 (Unmap 135168 4096) (Err 12) (Some (plain 32 35 r ∷ plain 48 49 r ∷ []))
     ∷ []
 
 -- order_mremap_new_place_below_lowest_before_ranges_overlap: the kernel
@@ -448,9 +448,9 @@ order_mremap_new_place_below_lowest_before_ranges_overlap_on = record { rules = 
 -- order_mremap_new_place_below_lowest_before_ranges_overlap: its answers
 abbrev pub order_mremap_new_place_below_lowest_before_ranges_overlap : List Step
 order_mremap_new_place_below_lowest_before_ranges_overlap =
-    step 0 (Map 131072 8192 rw 50 (negsuc 0) 0) (Ok (Returned 131072)) None
-    ∷ step 0 (Map 196608 4096 r 17 (pos 3) 0) (Ok (Returned 196608)) None
-    ∷ step 0 (Remap 32768 8192 8192 3 36864) (Err 22) (Some (plain 32 34 rw ∷ filed 48 49 r true 0 1 ∷ []))
+    kernel_step 0 (Map 131072 8192 rw 50 (negsuc 0) 0) (Ok (Returned 131072)) None
+    ∷ kernel_step 0 (Map 196608 4096 r 17 (pos 3) 0) (Ok (Returned 196608)) None
+    ∷ kernel_step 0 (Remap 32768 8192 8192 3 36864) (Err 22) (Some (plain 32 34 rw ∷ filed 48 49 r true 0 1 ∷ []))
     ∷ []
 
 -- placement_first_search_one_more: the kernel
@@ -460,7 +460,7 @@ placement_first_search_one_more_on = record { rules = linux_6_18_15; machine = r
 -- placement_first_search_one_more: its answers
 abbrev pub placement_first_search_one_more : List Step
 placement_first_search_one_more =
-    step 0 (Map 0 140737354072064 none 34 (negsuc 0) 0) (Err 12) (Some ([]))
+    kernel_step 0 (Map 0 140737354072064 none 34 (negsuc 0) 0) (Err 12) (Some ([]))
     ∷ []
 
 -- placement_hint_one_below_min: the kernel
@@ -470,7 +470,7 @@ placement_hint_one_below_min_on = record { rules = linux_6_18_15; machine = reco
 -- placement_hint_one_below_min: its answers
 abbrev pub placement_hint_one_below_min : List Step
 placement_hint_one_below_min =
-    step 0 (Map 61440 4096 rw 34 (negsuc 0) 0) (Ok (Returned 65536)) (Some (plain 16 17 rw ∷ []))
+    kernel_step 0 (Map 61440 4096 rw 34 (negsuc 0) 0) (Ok (Returned 65536)) (Some (plain 16 17 rw ∷ []))
     ∷ []
 
 -- threads_growth_and_map: the kernel
@@ -480,9 +480,9 @@ threads_growth_and_map_on = record { rules = linux_6_18_15; machine = record { l
 -- threads_growth_and_map: its answers
 abbrev pub threads_growth_and_map : List Step
 threads_growth_and_map =
-    step 0 (Map 131072 4096 rw 306 (negsuc 0) 0) (Ok (Returned 131072)) None
-    ∷ step 0 (Touch 31 Write) (Ok (Serves 31 33 rw false 0)) None
-    ∷ step 0 (Map 126976 4096 r 1048610 (negsuc 0) 0) (Err 17) (Some (plain 31 33 rw ∷ []))
+    kernel_step 0 (Map 131072 4096 rw 306 (negsuc 0) 0) (Ok (Returned 131072)) None
+    ∷ kernel_step 0 (Touch 31 Write) (Ok (Serves 31 33 rw false 0)) None
+    ∷ kernel_step 0 (Map 126976 4096 r 1048610 (negsuc 0) 0) (Err 17) (Some (plain 31 33 rw ∷ []))
     ∷ []
 
 -- The definitions answer all of these traces as Linux 6.18.15 did.

@@ -7,7 +7,7 @@ use Rattle.linux_rules.specs.declared.area.AnonVma.{AnonVma}
 use Rattle.linux_rules.specs.declared.area.Vma.{Vma}
 use Rattle.linux_rules.specs.declared.area.VmFlags.{VmFlags}
 use Rattle.linux_rules.specs.declared.kernel.Rules.{Rules}
-use Rattle.linux_rules.specs.Areas.{vma_from, without, replaced, with_vma, lower_part, upper_part}
+use Rattle.linux_rules.specs.Areas.{vma_from, without_vma, replaced, with_vma, lower_part, upper_part}
 
 -- whether two have the same access rights
 abbrev pub same_prot : Prot → Prot → Bool
@@ -67,9 +67,9 @@ abbrev pub neighbours_agree : Vma → Vma → Bool
 neighbours_agree prev next = is_none prev.anon || (is_none next.anon || same_anon prev.anon next.anon)
 
 -- vma_merge_*_range, merge_left: the area on the left that a range joins, if it does
-unfoldable pub left_of : Rules → Option Vma → Vma → Option AnonVma → Option Vma
-left_of rules None new from = None
-left_of rules (Some prev) new from = if merges_left rules prev new from then Some prev else None
+unfoldable pub merge_left : Rules → Option Vma → Vma → Option AnonVma → Option Vma
+merge_left rules None new from = None
+merge_left rules (Some prev) new from = if merges_left rules prev new from then Some prev else None
 
 -- vma_merge_*_range, merge_right: the area on the right that it joins, if it does; beside one on the left only where these two agree
 unfoldable pub right_of : Rules → Option Vma → Option Vma → Vma → Option AnonVma → Option Vma
@@ -98,17 +98,17 @@ merge_new_of new areas (Some prev) None from = let joined = with_anon_of (record
 merge_new_of new areas None (Some next) from = let joined = with_anon_of (from_page next new.lo) from in
     Some (record { vma = joined; areas = replaced next joined areas })
 merge_new_of new areas (Some prev) (Some next) from = let joined = with_anon_of (with_anon_of (record prev { hi = next.hi }) next.anon) from in
-    Some (record { vma = joined; areas = replaced prev joined (without next.lo areas) })
+    Some (record { vma = joined; areas = replaced prev joined (without_vma next.lo areas) })
 
 -- vma_merge_new_range: the same between these neighbours. `from` is the anon_vma of the area that its pages are copied from, if they are.
 unfoldable pub merge_new_range : Rules → List Vma → Option Vma → Option Vma → Vma → Option AnonVma → Option Merged
-merge_new_range rules areas prev next new from = let left = left_of rules prev new from in
+merge_new_range rules areas prev next new from = let left = merge_left rules prev new from in
     merge_new_of new areas left (right_of rules left next new from) from
 
 -- commit_merge, adjust: the list without a range of an area that reaches one end of it, or both
 abbrev pub without_range : Vma → ℕ → ℕ → List Vma → List Vma
 without_range middle lo hi areas = if nat_eq lo middle.lo
-    then (if nat_eq hi middle.hi then without middle.lo areas else replaced middle (upper_part middle hi) areas)
+    then (if nat_eq hi middle.hi then without_vma middle.lo areas else replaced middle (upper_part middle hi) areas)
     else replaced middle (lower_part middle lo) areas
 
 -- vma_merge_existing_range, commit_merge: a range of an area leaves it, and joins the area on its left, on its right, or both
@@ -117,10 +117,10 @@ merge_existing_of middle lo hi areas None None = None
 merge_existing_of middle lo hi areas (Some prev) None = let joined = with_anon_of (record prev { hi = hi }) middle.anon in
     Some (record { vma = joined; areas = replaced prev joined (without_range middle lo hi areas) })
 merge_existing_of middle lo hi areas None (Some next) = let joined = with_anon_of (from_page next lo) middle.anon in
-    Some (record { vma = joined; areas = with_vma joined (without next.lo (without_range middle lo hi areas)) })
+    Some (record { vma = joined; areas = with_vma joined (without_vma next.lo (without_range middle lo hi areas)) })
 merge_existing_of middle lo hi areas (Some prev) (Some next) =
     let joined = with_anon_of (record prev { hi = next.hi }) (option_or next.anon middle.anon) in
-    Some (record { vma = joined; areas = replaced prev joined (without next.lo (without middle.lo areas)) })
+    Some (record { vma = joined; areas = replaced prev joined (without_vma next.lo (without_vma middle.lo areas)) })
 
 -- the range as an area of its own, with the flags that it gets
 abbrev pub part_with : Vma → ℕ → ℕ → VmFlags → Vma
@@ -129,6 +129,6 @@ part_with middle lo hi flags = record (upper_part middle lo) { hi = hi; flags = 
 -- vma_merge_existing_range: a range that gets other flags joins its neighbours; the middle of an area joins nothing
 unfoldable pub merge_existing_range : Rules → List Vma → Option Vma → Vma → ℕ → ℕ → VmFlags → Option Merged
 merge_existing_range rules areas prev middle lo hi flags = let new = part_with middle lo hi flags in
-    let left = left_of rules (if nat_eq lo middle.lo then prev else None) new middle.anon in
+    let left = merge_left rules (if nat_eq lo middle.lo then prev else None) new middle.anon in
     let right = right_of rules left (if nat_eq hi middle.hi then vma_from areas hi else None) new middle.anon in
     merge_existing_of middle lo hi areas left right

@@ -16,7 +16,7 @@ use Rattle.linux_rules.specs.AnonVmas.{anon_vma_prepare}
 use Rattle.linux_rules.specs.Areas.{vma_before, vma_from, with_vma, is_aligned, pages_of}
 use Rattle.linux_rules.specs.Doing.{Doing, ◌>>=◌, ◌>>◌, done, refuse_if, areas_now, set_areas}
 use Rattle.linux_rules.specs.Merging.{Merged, merge_new_range, merges_left, merges_right}
-use Rattle.linux_rules.specs.Munmap.{gather, remove}
+use Rattle.linux_rules.specs.Munmap.{gather_vmas, remove}
 use Rattle.linux_rules.specs.Mprotect.{key_of}
 use Rattle.linux_rules.specs.Searching.{lowest_for_hints, get_unmapped_area, is_free}
 
@@ -25,8 +25,8 @@ abbrev pub asks : MmapArgs → ℕ → Bool
 asks args flag = has_flag args.flags flag
 
 -- ksys_mmap_pgoff, fget: the file of the call; anonymous memory has none
-unfoldable pub file_of : Kernel → MmapArgs → Option FileRow
-file_of kernel args = if asks args MAP_ANONYMOUS then None else find (λ file. int_eq file.fd args.fd) kernel.config.files
+unfoldable pub file_of_call : Kernel → MmapArgs → Option FileRow
+file_of_call kernel args = if asks args MAP_ANONYMOUS then None else find (λ file. int_eq file.fd args.fd) kernel.config.files
 
 -- its number among the files of the trace, from 1 on
 unfoldable pub file_number : Kernel → MmapArgs → ℕ
@@ -108,8 +108,8 @@ new_object kernel pages space = record {
 }
 
 -- __mmap_new_vma: what the mapping maps: a file, a new shared object, which is charged, or nothing
-unfoldable pub object_of : Kernel → VmFlags → ℕ → ℕ → Doing ℕ
-object_of kernel flags file pages = if flags.shared && nat_eq file 0
+unfoldable pub mapped_object : Kernel → VmFlags → ℕ → ℕ → Doing ℕ
+mapped_object kernel flags file pages = if flags.shared && nat_eq file 0
     then (do
       refuse_if (not flags.noreserve && lacks_memory kernel pages) ENOMEM
       new_object kernel pages)
@@ -146,11 +146,11 @@ put_new kernel new = do
 -- nothing back.
 unfoldable pub mmap_region : Kernel → ℕ → ℕ → VmFlags → ℕ → ℕ → Doing Vma
 mmap_region kernel lo pages flags file index = do
-  gone ← gather kernel lo (lo + pages)
+  gone ← gather_vmas kernel lo (lo + pages)
   if kernel.rules.replaces_last then done tt else remove gone
   refuse_if (is_accountable flags && lacks_memory kernel (if kernel.rules.replaces_last then pages - accounted_pages gone else pages)) ENOMEM
   remove gone
-  number ← object_of kernel flags file pages
+  number ← mapped_object kernel flags file pages
   put_new kernel (record { lo = lo; hi = lo + pages; flags = record flags { account = is_accountable flags }; file = number; pgoff = index; anon = None })
 
 -- do_mmap, pgoff: private anonymous memory counts from its first place, shared anonymous memory from 0
@@ -166,15 +166,15 @@ populate args flags vma = if asks args MAP_POPULATE && (flags.access.write && no
 unfoldable pub mmap : Kernel → MmapArgs → Doing ℕ
 mmap kernel args = do
   refuse_if (not (is_aligned args.offset)) EINVAL
-  refuse_if (not (asks args MAP_ANONYMOUS) && is_none (file_of kernel args)) EBADF
+  refuse_if (not (asks args MAP_ANONYMOUS) && is_none (file_of_call kernel args)) EBADF
   refuse_if (nat_eq args.len 0) EINVAL
   refuse_if (nat_eq (pages_of args.len) 0) ENOMEM
   areas ← areas_now
   refuse_if (nat_lt kernel.config.areas (length areas)) ENOMEM
   start ← get_unmapped_area kernel (address_of kernel args) (pages_of args.len) (is_fixed args) (args.offset / PAGE_SIZE)
-      (is_some (file_of kernel args)) (asks args MAP_SHARED)
+      (is_some (file_of_call kernel args)) (asks args MAP_SHARED)
   refuse_if (asks args MAP_FIXED_NOREPLACE && not (is_free areas (pages_of args.len) start)) EEXIST
-  flags ← flags_of args (file_of kernel args) (common_flags kernel args)
-  vma ← mmap_region kernel start (pages_of args.len) flags (file_number kernel args) (first_index (file_of kernel args) args start)
+  flags ← flags_of args (file_of_call kernel args) (common_flags kernel args)
+  vma ← mmap_region kernel start (pages_of args.len) flags (file_number kernel args) (first_index (file_of_call kernel args) args start)
   written ← populate args flags vma
   done (PAGE_SIZE * start)

@@ -24,8 +24,8 @@ pub record Remap : Type 0 where
   pub new_addr : ℕ
 
 -- MREMAP_FIXED
-abbrev pub is_fixed : ℕ → Bool
-is_fixed flags = has_flag flags MREMAP_FIXED
+abbrev pub is_mremap_fixed : ℕ → Bool
+is_mremap_fixed flags = has_flag flags MREMAP_FIXED
 
 -- MREMAP_DONTUNMAP
 abbrev pub keeps_old : ℕ → Bool
@@ -37,7 +37,7 @@ may_move flags = has_flag flags MREMAP_MAYMOVE
 
 -- vrm_implies_new_addr: the new address is read, as the place for MREMAP_FIXED, as a hint for MREMAP_DONTUNMAP
 abbrev pub names_place : ℕ → Bool
-names_place flags = is_fixed flags || keeps_old flags
+names_place flags = is_mremap_fixed flags || keeps_old flags
 
 -- do_munmap of pages
 abbrev pub unmap_pages : Kernel → ℕ → ℕ → Doing Unit
@@ -73,14 +73,16 @@ abbrev pub joins_nothing : Kernel → Bool → Vma → ℕ → ℕ → Bool
 joins_nothing kernel apart vma place news = apart && (not kernel.rules.joins_beside_source && (nat_eq place vma.hi || nat_eq (place + news) vma.lo))
 
 -- copy_vma: the same memory at a new place, where it may join its neighbours. What was never written gets the page offset of its new place.
--- Where keeps_copies_apart holds (mm/mremap.c), a copy of MREMAP_DONTUNMAP that was never written doesn't join its source.
+-- Where keeps_copies_apart holds (mm/mremap.c), a copy of MREMAP_DONTUNMAP that was never written doesn't join its source. In 6.16 and 6.17
+-- (mm/vma.c, vma_expand) the area that it joins doesn't take its anon_vma, nor is asked whether a fork made that.
 unfoldable pub copy_vma : Kernel → Vma → ℕ → ℕ → ℕ → Bool → Doing Vma
 copy_vma kernel vma page place news keeps = do
   areas ← areas_now
   let apart = keeps && (is_unwritten vma && kernel.rules.keeps_copies_apart) in
       let new : Vma = record { lo = place; hi = place + news; flags = vma.flags; file = vma.file; pgoff = if is_unwritten vma then place else index_at vma page; anon = vma.anon } in
       merged_or_new new areas (if joins_nothing kernel apart vma place news then None
-      else merge_new_range kernel.rules areas (not_source apart vma (vma_before areas place)) (not_source apart vma (find_vma areas (place + news))) new vma.anon)
+      else merge_new_range kernel.rules areas (not_source apart vma (vma_before areas place)) (not_source apart vma (find_vma areas (place + news))) new
+      (if kernel.rules.loses_written then None else vma.anon))
 
 -- dontunmap_complete: what MREMAP_DONTUNMAP leaves. In 6.15 and 6.16 (mm/mremap.c) it loses its account. An area that is left whole counts as
 -- never written, at the page offset of its place where keeps_copies_apart holds.
@@ -134,7 +136,7 @@ is_trace_file kernel vma = not (nat_eq vma.file 0) && nat_le vma.file (length ke
 -- vrm_set_new_addr, move_vma: moves to a place that is fixed or searched
 unfoldable pub place_and_move : Kernel → Vma → ℕ → ℕ → ℕ → ℕ → ℕ → Doing ℕ
 place_and_move kernel vma page olds news flags new_addr = do
-  place ← get_unmapped_area kernel new_addr news (is_fixed flags) (index_at vma page) (is_trace_file kernel vma) vma.flags.mayshare
+  place ← get_unmapped_area kernel new_addr news (is_mremap_fixed flags) (index_at vma page) (is_trace_file kernel vma) vma.flags.mayshare
   move_vma kernel vma page olds news flags place
 
 -- vma_expandable: whether so many pages behind the area are free
@@ -165,8 +167,8 @@ expand kernel vma page olds news flags = do
     place_and_move kernel vma page olds news flags 0
 
 -- vrm_overlaps: the two ranges share bytes, with sums that wrap
-abbrev pub overlap : Remap → Bool
-overlap args = nat_lt args.new_addr ((args.addr + PAGE_SIZE * args.olds) % 2 ^ 64) && nat_lt args.addr ((args.new_addr + PAGE_SIZE * args.news) % 2 ^ 64)
+abbrev pub vrm_overlaps : Remap → Bool
+vrm_overlaps args = nat_lt args.new_addr ((args.addr + PAGE_SIZE * args.olds) % 2 ^ 64) && nat_lt args.addr ((args.new_addr + PAGE_SIZE * args.news) % 2 ^ 64)
 
 -- check_mremap_params (mremap_to): whether the limit leaves too few areas for a move to a place: map_count + 2 >= sysctl_max_map_count - 3
 abbrev pub lacks_areas : Kernel → List Vma → Bool
@@ -192,16 +194,16 @@ cut_to kernel page olds news = if nat_lt news olds then unmap_pages kernel (page
 -- mremap_to, since 6.17: unmaps what lies at a fixed place, cuts off the rest of a longer range, and moves
 unfoldable pub mremap_to : Kernel → ℕ → ℕ → ℕ → ℕ → ℕ → Doing ℕ
 mremap_to kernel page olds news flags new = do
-  if is_fixed flags then unmap_pages kernel new news else done tt
+  if is_mremap_fixed flags then unmap_pages kernel new news else done tt
   here ← area_now page
   cut_to kernel page olds news
   vma ← area_now page
   place_and_move kernel vma page (min olds news) news flags (PAGE_SIZE * new)
 
 -- remap_move: where a later area goes, with the hole before it
-abbrev pub shifted : Option ℕ → ℕ → ℕ → ℕ
-shifted None lo target = target
-shifted (Some last) lo target = target + (lo - last)
+abbrev pub shifted_addr : Option ℕ → ℕ → ℕ → ℕ
+shifted_addr None lo target = target
+shifted_addr (Some last) lo target = target + (lo - last)
 
 -- remap_move: the place of the first area, or EFAULT if there was none
 abbrev pub first_place : Option ℕ → Doing ℕ
@@ -222,7 +224,7 @@ remap_from kernel flags start end (suc rounds) page target last first = do
     refuse_if (is_none last && nat_lt start vma.lo) EFAULT
     let lo = max vma.lo start in let pages = min end vma.hi - lo in do
       check_prep vma lo pages pages flags
-      place ← mremap_to kernel lo pages pages flags (shifted last vma.lo target)
+      place ← mremap_to kernel lo pages pages flags (shifted_addr last vma.lo target)
       remap_from kernel flags start end rounds vma.hi (place + pages) (Some vma.hi) (Some (option_map_or (λ place. place) first place))
 
 -- do_mremap: whether the limit leaves too few areas to begin with. Up to 6.18 only a move to a place is tested; in 7.2 (mm/mremap.c,
@@ -234,7 +236,7 @@ is_near_limit kernel flags areas = if kernel.rules.limits_each_mremap then nat_l
 -- check_mremap_params, since 6.17: the tests of a new address
 abbrev pub is_bad_place : Kernel → Remap → Bool
 is_bad_place kernel args = nat_lt (kernel.config.limit - PAGE_SIZE * args.news) args.new_addr || (not (is_aligned args.new_addr)
-    || (not (may_move args.flags) || (keeps_old args.flags && not (nat_eq args.olds args.news) || overlap args)))
+    || (not (may_move args.flags) || (keeps_old args.flags && not (nat_eq args.olds args.news) || vrm_overlaps args)))
 
 -- do_mremap, since 6.17. Returns the page.
 unfoldable pub new_mremap : Kernel → Remap → Doing ℕ
@@ -243,7 +245,7 @@ new_mremap kernel args = let page = args.addr / PAGE_SIZE in let flags = args.fl
   refuse_if (names_place flags && is_bad_place kernel args) EINVAL
   areas ← areas_now
   refuse_if (is_near_limit kernel flags areas) ENOMEM
-  if is_fixed flags && nat_eq args.olds args.news
+  if is_mremap_fixed flags && nat_eq args.olds args.news
       then (let end = (page + args.olds) % 2 ^ 52 in remap_from kernel flags page end (end - page) page (args.new_addr / PAGE_SIZE) None None)
       else (do
         vma ← area_now page
@@ -257,10 +259,10 @@ new_mremap kernel args = let page = args.addr / PAGE_SIZE in let flags = args.fl
 unfoldable pub old_mremap_to : Kernel → Remap → Doing ℕ
 old_mremap_to kernel args = let page = args.addr / PAGE_SIZE in do
   refuse_if (not (is_aligned args.new_addr) || (nat_lt (kernel.config.limit / PAGE_SIZE) args.news || nat_lt (kernel.config.limit - PAGE_SIZE * args.news) args.new_addr)) EINVAL
-  refuse_if (overlap args) EINVAL
+  refuse_if (vrm_overlaps args) EINVAL
   areas ← areas_now
   refuse_if (lacks_areas kernel areas) ENOMEM
-  if is_fixed args.flags then unmap_pages kernel (args.new_addr / PAGE_SIZE) args.news else done tt
+  if is_mremap_fixed args.flags then unmap_pages kernel (args.new_addr / PAGE_SIZE) args.news else done tt
   cut_to kernel page args.olds args.news
   vma ← area_now page
   check_range vma page (min args.olds args.news) (min args.olds args.news) args.news
@@ -275,7 +277,7 @@ check_place_early kernel args areas = do
 -- the system call mremap, up to 6.16. Returns the page. `same` says that both lengths are equal in bytes.
 unfoldable pub old_mremap : Kernel → Remap → Bool → Doing ℕ
 old_mremap kernel args same = let page = args.addr / PAGE_SIZE in let flags = args.flags in do
-  refuse_if (is_fixed flags && not (may_move flags)) EINVAL
+  refuse_if (is_mremap_fixed flags && not (may_move flags)) EINVAL
   refuse_if (keeps_old flags && (not (may_move flags) || not same)) EINVAL
   refuse_if (not (is_aligned args.addr) || nat_eq args.news 0) EINVAL
   areas ← areas_now

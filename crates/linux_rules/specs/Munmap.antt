@@ -5,7 +5,7 @@ use Rattle.mm_types.specs.declared.config.TheConstants.{PAGE_SIZE}
 use Rattle.linux_rules.specs.declared.area.Vma.{Vma}
 use Rattle.linux_rules.specs.declared.errors.TheConstants.{EPERM, ENOMEM, EINVAL}
 use Rattle.linux_rules.specs.declared.kernel.Kernel.{Kernel}
-use Rattle.linux_rules.specs.Areas.{vma_lookup, vmas_in, without, split_at, at_limit, is_aligned, pages_of}
+use Rattle.linux_rules.specs.Areas.{vma_lookup, vmas_in, without_vma, split_at, at_limit, is_aligned, pages_of}
 use Rattle.linux_rules.specs.Doing.{Doing, ◌>>=◌, ◌>>◌, done, refuse_if, areas_now, set_areas}
 
 -- vms_gather_munmap_vmas: the first area is split where the range begins inside it. A hole in the middle of an area makes two of it, so it is
@@ -31,8 +31,8 @@ to_each change (Some vma) = change vma
 
 -- vms_gather_munmap_vmas: the areas that a range is to lose, split off at its ends. A sealed area ends it with EPERM when it is reached, and
 -- the split below stays.
-unfoldable pub gather : Kernel → ℕ → ℕ → Doing (List Vma)
-gather kernel lo hi = do
+unfoldable pub gather_vmas : Kernel → ℕ → ℕ → Doing (List Vma)
+gather_vmas kernel lo hi = do
   areas ← areas_now
   to_each (split_first kernel lo hi) (vma_lookup areas lo)
   areas ← areas_now
@@ -45,7 +45,7 @@ gather kernel lo hi = do
 abbrev pub remove : List Vma → Doing Unit
 remove gone = do
   areas ← areas_now
-  set_areas (fold (λ areas vma. without vma.lo areas) areas gone)
+  set_areas (fold (λ areas vma. without_vma vma.lo areas) areas gone)
 
 -- do_vmi_munmap, its first tests: a range that isn't aligned, is empty, or passes the end of user memory
 unfoldable pub is_bad_range : Kernel → ℕ → ℕ → Bool
@@ -55,5 +55,5 @@ is_bad_range kernel addr len = not (is_aligned addr) || (nat_lt kernel.config.li
 unfoldable pub munmap : Kernel → ℕ → ℕ → Doing Unit
 munmap kernel addr len = do
   refuse_if (is_bad_range kernel addr len) EINVAL
-  gone ← gather kernel (addr / PAGE_SIZE) (addr / PAGE_SIZE + pages_of len)
+  gone ← gather_vmas kernel (addr / PAGE_SIZE) (addr / PAGE_SIZE + pages_of len)
   remove gone

@@ -92,8 +92,8 @@ abbrev pub filed : (lo hi : ℕ) → Prot → (shared : Bool) → (offset file :
 filed lo hi access shared offset file = record { lo = lo; hi = hi; access = access; shared = shared; offset = offset; file = file; heap = false }
 
 -- one step in the address space of a number
-abbrev pub step : ℕ → Operation → Result Answer ℕ → Option (List MapsLine) → Step
-step place operation answer maps = record { place = place; operation = operation; answer = answer; maps = maps }
+abbrev pub kernel_step : ℕ → Operation → Result Answer ℕ → Option (List MapsLine) → Step
+kernel_step place operation answer maps = record { place = place; operation = operation; answer = answer; maps = maps }
 
 -- a file of a trace, of which no rule reads the device, the inode or the name
 abbrev pub file_row : (fd : ℕ) → (read write : Bool) → (size : ℕ) → FileRow

@@ -19,6 +19,7 @@ linux_6_1 = record {
   limits_each_mremap = false;
   joins_beside_source = false;
   limits_before_lookup = false;
+  loses_written = false;
 }
 
 -- Linux 6.12.117
@@ -35,7 +36,7 @@ linux_6_12 = record linux_6_1 {
 
 -- Linux 6.16.12
 abbrev pub linux_6_16 : Rules
-linux_6_16 = record linux_6_12 { merges_unfaulted = true; keeps_copies_apart = false; loses_accounts = true; limits_before_lookup = true }
+linux_6_16 = record linux_6_12 { merges_unfaulted = true; keeps_copies_apart = false; loses_accounts = true; limits_before_lookup = true; loses_written = true }
 
 -- Linux 6.17.13
 abbrev pub linux_6_17 : Rules
@@ -43,11 +44,11 @@ linux_6_17 = record linux_6_16 { moves_several = true; loses_accounts = false; h
 
 -- Linux 6.18.15
 abbrev pub linux_6_18_15 : Rules
-linux_6_18_15 = linux_6_17
+linux_6_18_15 = record linux_6_17 { loses_written = false }
 
 -- Linux 6.18.44
 abbrev pub linux_6_18 : Rules
-linux_6_18 = record linux_6_17 { has_stale_seal = false }
+linux_6_18 = record linux_6_18_15 { has_stale_seal = false }
 
 -- Linux 7.2.12
 abbrev pub linux_7_2 : Rules

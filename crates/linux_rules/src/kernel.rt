@@ -34,6 +34,8 @@ pub struct Rules {
     pub joins_beside_source: bool,
     /// mm/mremap.c, 6.16: mremap to a place tests the limit before it looks for the area.
     pub limits_before_lookup: bool,
+    /// mm/vma.c, 6.16 and 6.17: what mremap moves joins an area that was never written, and then counts as never written.
+    pub loses_written: bool,
 }
 
 /// What the kernel has at the address of `[vsyscall]`.

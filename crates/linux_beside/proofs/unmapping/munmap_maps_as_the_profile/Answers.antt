@@ -1,9 +1,6 @@
 -- For `munmap_maps_as_the_profile`: its goals.
-use Rattle.linux_beside.proofs.MunmapLemmas.{keeps_order, refused_keeps_pages, unmaps_as_profile, unmaps_its_range}
+use Rattle.linux_beside.proofs.MunmapLemmas.{refused_keeps_pages, unmaps_as_profile, unmaps_its_range}
 use Rattle.linux_beside.proofs.unmapping.munmap_maps_as_the_profile.Goals as goal
-
-pub returns-clause-order : goal.returns-clause-order
-returns-clause-order c = keeps_order
 
 pub returns-clause-range : goal.returns-clause-range
 returns-clause-range c = unmaps_its_range
