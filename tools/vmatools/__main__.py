@@ -5,7 +5,7 @@ import os
 import sys
 from typing import NoReturn
 
-from vmatools.cli import main
+from .cli import main
 
 
 def command() -> NoReturn:

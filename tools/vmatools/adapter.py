@@ -34,7 +34,7 @@ from collections.abc import Callable
 from typing import Any, NamedTuple, NoReturn
 
 from .model import reply_text
-from .serial import serial_output
+from .profile.serial import serial_output
 from .systems.batch import requests
 from .systems.capabilities import KNOWN
 from .traces import FORMS, MAP, MOST_AREAS, MOST_SIZE, PAGE, USER_PAGES, BadLine, File, Line, Trace, read_trace

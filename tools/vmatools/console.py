@@ -20,7 +20,7 @@ MOST_BYTES = 1 << 28  # of a file that is read as a whole
 # Exit statuses. Their table is in docs/COMPARE.md.
 DONE, FOUND, WRONG_USE, FAULT, NOT_WRITTEN, INTERRUPTED, NOT_READ_ON = 0, 1, 2, 70, 74, 130, 141
 STATUSES = {
-    DONE: "the work is done, and nothing was found that differs, is wrong or is missing",
+    DONE: "the work is done, and nothing (but for a baseline's) was found that differs, is wrong or is missing",
     FOUND: "something was found: a difference, a bad line, an output that is not legal, a row that is answered otherwise",
     WRONG_USE: "wrong use, or a file or program that is not there or cannot be read or run",
     FAULT: "a fault in the tool itself, which it shows",

@@ -11,7 +11,7 @@ from .linux.kernel import Kernel, kernel_of, running_kernel
 from .linux.space import LinuxSpace
 from .linux.versions import WrongOracle, table, text_of
 from .model import Space
-from .serial import ModelSpace, serial_output
+from .profile.serial import ModelSpace, serial_output
 from .traces import Trace
 
 PROFILE_NAME, RUNNING = "profile", "linux"

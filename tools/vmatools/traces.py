@@ -7,6 +7,7 @@ from __future__ import annotations
 import io
 import re
 from collections.abc import Callable, Iterable, Iterator
+from functools import cached_property, lru_cache, partial
 from typing import Any, NamedTuple, Union
 
 PAGE = 4096
@@ -132,6 +133,11 @@ class Trace:
             for place, line in enumerate(self.lines)
         )
 
+    @cached_property
+    def data(self) -> bytes:
+        """The bytes of a trace that nobody changes from now on."""
+        return self.text().encode()
+
     def text(self) -> str:
         settings = [
             f"limit areas {value}" if name == "limit" else f"{name} {value:#x}" for name, value in self.settings.items()
@@ -145,18 +151,24 @@ class Trace:
 
 
 def line_text(line: Line) -> str:
-    words = [word_text(kind, value) for kind, value in zip(FORMS[line.word], line.arguments)]
+    words = [TEXTS.get(kind, str)(value) for kind, value in zip(FORMS[line.word], line.arguments)]
     after = [f"after={line.after}"] if line.after is not None else []
     return " ".join([str(line.thread), line.word, *words, *after])
 
 
-def word_text(kind: str, value: Any) -> str:
-    if kind in TABLES:
-        names = [name for name, bit in TABLES[kind].items() if value & bit]
-        return "|".join(names) or ("PROT_NONE" if kind == "PROT" else "0")
-    if kind in ("ADDR", "OLD", "NEW"):
-        return hex(value) if value else "0"
-    return str(value)
+def address_text(value: int) -> str:
+    return hex(value) if value else "0"
+
+
+@lru_cache(maxsize=4096)
+def flags_text(kind: str, value: int) -> str:
+    names = [name for name, bit in TABLES[kind].items() if value & bit]
+    return "|".join(names) or ("PROT_NONE" if kind == "PROT" else "0")
+
+
+# How the words of an operation are written that are no plain numbers or letters.
+TEXTS: dict[str, Callable[[Any], str]] = {kind: partial(flags_text, kind) for kind in TABLES}
+TEXTS |= {kind: address_text for kind in ("ADDR", "OLD", "NEW")}
 
 
 class BadLine(Exception):

@@ -4,7 +4,8 @@ from __future__ import annotations
 import hashlib
 from pathlib import Path
 
-from . import VERSION, program
+from . import VERSION
+from .running import program
 
 # The sums of the programs that a full check proved: .ci/run leaves them in a checkout, and a package of those programs has them.
 SUMS = program.TOP / "proved.sha256"

@@ -29,22 +29,14 @@ from contextlib import ExitStack, closing
 from pathlib import Path
 from typing import Optional
 
-from .. import (
-    comparison,
-    conformance,
-    console,
-    findings as found,
-    generator,
-    oracles,
-    program,
-    threaded,
-    traces,
-)
-from ..campaign import KIND_SECONDS, MOST_OPEN, Campaign, Settings
-from ..findings import Baseline, Findings, Journal
-from ..keeping import Kept
+from .. import console, oracles, traces
+from ..comparing import comparison, conformance, findings as found, generator, threaded
+from ..comparing.campaign import KIND_SECONDS, MOST_OPEN, Campaign, Settings
+from ..comparing.findings import Baseline, Findings, Journal
+from ..comparing.keeping import Kept
+from ..comparing.reports import Report
 from ..oracles import PROFILE
-from ..reports import Report
+from ..running import program
 from ..systems import beside
 from ..words import count, time_limit
 
@@ -160,10 +152,11 @@ def add_arguments(parser: argparse.ArgumentParser) -> None:
     )
     report.add_argument("--junit", type=Path, metavar="FILE", help="the report as JUnit's XML")
     report.add_argument(
-        "--keep",
+        "--corpus",
         type=Path,
         metavar="FOLDER",
-        help="keep the trace of each kind there, with both outputs, and run again first what an earlier run has kept",
+        help="keep the trace of each kind there, with both outputs, and those that reach something new; run first, and go on "
+        "from, what an earlier run has kept",
     )
     report.add_argument(
         "--all", action="store_true", dest="goes_on", help=f"go on where {MOST_OPEN} kinds of differences are open"
@@ -229,6 +222,7 @@ def settings_of(options: argparse.Namespace) -> Settings:
         has_coverage=options.coverage,
     )
     says_which = options.runs or options.only or options.traces or options.threads or options.profile != generator.IN_TURN
+    settings.grows = not options.threads and options.profile == generator.IN_TURN
     if options.suite or options.suite is None and not says_which:
         settings.suite = conformance.cases_in_order("wide" in options.profile)
     words: list[str] = []
@@ -284,7 +278,7 @@ def compare_sides(options: argparse.Namespace, settings: Settings, sides: compar
     findings = Findings(Baseline.read(options.baseline) if options.baseline else Baseline())
     if options.system:
         sides.test_machine()
-    kept = Kept.opened(options.keep) if options.keep else Kept()
+    kept = Kept.opened(options.corpus) if options.corpus else Kept()
     with ExitStack() as stack:
         journal = opened_journal(options, settings, kept, stack)
         junit = stack.enter_context(closing(console.NewFile(options.junit))) if options.junit else None
@@ -323,7 +317,8 @@ def opened_journal(options: argparse.Namespace, settings: Settings, kept: Kept, 
     journal = Journal(file.stream if file else sys.stdout)
     journal.write({"event": "begin", "identity": settings.identity(), "runs": settings.runs})
     for path, name in kept.before.items():
-        journal.write({"event": "kept", "name": name, "source": str(path)})
+        if name:
+            journal.write({"event": "kept", "name": name, "source": str(path)})
     if file:
         file.take_place()
     return journal

@@ -29,12 +29,13 @@ from dataclasses import replace
 from pathlib import Path
 from typing import TextIO
 
-from .. import children, conformance, console, oracles, program
-from ..conformance import Case, Result, Verdict
-from ..live import LiveAdapter
+from .. import console, oracles
+from ..comparing import conformance
+from ..comparing.conformance import Case, Result, Verdict
 from ..outputs import parts_of
-from ..program import TOP, Ran
-from ..program import run as run_command
+from ..running import children, program
+from ..running.live import LiveAdapter
+from ..running.program import TOP, Ran, run as run_command
 from ..systems.batch import Adapter, Adapters
 from ..systems.capabilities import PROBE
 from ..systems.known import KNOWN, MACHINE_SECONDS, system_of
@@ -218,6 +219,9 @@ def report(results: Sequence[Result], given: argparse.Namespace) -> None:
         if not result.missing_call:
             print(f"\n{result.verdict.value}: {result.case.where}: {result.case.says}")
             print("\n".join([*conformance.described(result), f"  again: {repeating(given, result.case)}"]))
+    hung = [result for result in results if result.verdict is Verdict.HUNG]
+    if hung and (why := program.busy()):
+        console.say(f"{console.counted(len(hung), 'case')} hung, and {why}")
 
 
 def open_forms(options: argparse.Namespace, stack: contextlib.ExitStack) -> dict[str, TextIO]:

@@ -17,11 +17,12 @@ import argparse
 import os
 import sys
 
-from .. import console, explanations, oracles
+from .. import console, oracles
 from ..drawing.page import page
 from ..drawing.picture import picture
 from ..drawing.runs import Run, read_numbered, replayed
 from ..linux.areas import NotModelled
+from ..texts import explanations
 from ..traces import BadLine, File
 from ..words import count, number
 

@@ -11,8 +11,9 @@ import argparse
 from collections.abc import Iterator
 from pathlib import Path
 
-from .. import console, loads, oracles
-from ..campaign import Settings, sources
+from .. import console, oracles
+from ..comparing.campaign import Settings, sources
+from ..profile import loads
 from ..traces import read_trace
 from ..words import count
 from .compare import add_traces

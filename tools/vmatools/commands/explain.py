@@ -14,8 +14,10 @@ from __future__ import annotations
 
 import argparse
 
-from .. import answers, console, explanations, maps_texts, oracles, traces
+from .. import console, oracles, traces
+from ..comparing import answers
 from ..linux.kernel import Kernel
+from ..texts import explanations, maps_texts
 
 SUMMARY = "say what is wrong with a trace, and mark the word"
 WIDTH = 110  # a longer line is shown in part

@@ -12,8 +12,10 @@ from __future__ import annotations
 
 import argparse
 
-from .. import console, explanations, judging, oracles
+from .. import console, oracles
+from ..comparing import judging
 from ..linux.areas import NotModelled
+from ..texts import explanations
 
 SUMMARY = "say whether the output of a system with threads is legal"
 

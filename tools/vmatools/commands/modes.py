@@ -12,8 +12,10 @@ from collections.abc import Callable, Iterator
 from dataclasses import dataclass
 from typing import IO, NoReturn
 
-from .. import console, explanations, maps_texts, oracles, program
+from .. import console, oracles
 from ..linux.areas import NotModelled
+from ..running import program
+from ..texts import explanations, maps_texts
 from ..traces import LIMITS, number_of
 from ..unproved import sessions
 from ..unproved.modes import MOST_GENERATED, MOST_READ

@@ -13,7 +13,8 @@ from contextlib import ExitStack, closing
 from dataclasses import dataclass
 from pathlib import Path
 
-from .. import console, program
+from .. import console
+from ..running import program
 
 SUMMARY = "write an adapter that runs, in whose place your system comes"
 EXAMPLES = program.TOP / "examples/batch"
@@ -47,7 +48,7 @@ def run(options: argparse.Namespace) -> int:
     for name in language.files:
         if os.path.lexists(options.folder / name):
             raise console.Failure(f"{options.folder / name}: it is there already")
-    tools = str(Path(program.__file__).resolve().parents[1])
+    tools = str(Path(program.__file__).resolve().parents[2])
     with ExitStack() as stack:
         files = [stack.enter_context(closing(console.NewFile(options.folder / name))) for name in language.files]
         for file, name in zip(files, language.files):

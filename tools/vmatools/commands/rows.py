@@ -19,7 +19,8 @@ import contextlib
 import difflib
 import os
 
-from .. import console, oracles, program
+from .. import console, oracles
+from ..running import program
 from ..systems import rows
 
 SUMMARY = "repeat the known differences of Linux, each on a few lines"

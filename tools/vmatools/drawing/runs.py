@@ -5,12 +5,12 @@ import re
 from collections.abc import Iterator
 from dataclasses import dataclass, field
 
-from .. import judging
+from ..comparing import judging
 from ..console import Failure, counted, printable
 from ..linux.areas import NotModelled
 from ..model import Area
 from ..oracles import PROFILE, Oracle
-from ..serial import ModelSpace
+from ..profile.serial import ModelSpace
 from ..traces import File, Line, Reader, Source, Trace
 
 RESULT = re.compile(r"L([0-9]{1,20}) t([0-9]{1,20}) v([0-9]{1,20}) = (.*)", re.DOTALL)

@@ -1,4 +1,4 @@
-"""The rows of docs/KERNEL.md by version: what each Linux answers to their traces, as the two models say."""
+"""The tables of docs/KERNEL.md that are made: its rows by version, as the two models say, and which error comes first."""
 from __future__ import annotations
 
 import re
@@ -11,7 +11,8 @@ from .areas import NotModelled
 from .kernel import Process, Settings, kernel_of
 from .versions import table, text_of
 
-BEGIN, END = "<!-- made by dev/kernel-table -->", "<!-- end of the table -->"
+VERSIONS = "<!-- made by dev/kernel-table -->", "<!-- end of the table -->"
+ERRORS = "<!-- errors, made by dev/kernel-table -->", "<!-- end of the errors -->"
 SETTINGS = Settings(huge="madvise")  # those of the machine whose answers the rows have
 AS_PROFILE, AS_NEWEST, OTHERWISE, NONE = "as the profile", "as 6.18.44", "otherwise", "-"
 NEWEST = (6, 18, 44)
@@ -56,7 +57,24 @@ def marked(rows: Sequence[Sequence[str]]) -> list[str]:
     return ["| " + " | ".join(row) + " |" for row in rows]
 
 
+def error_cells(row: Row) -> list[str]:
+    """The last call of a row that the two sides answer otherwise, and both answers."""
+    pairs = zip(row.here.splitlines(), row.there.splitlines())
+    here, there = [(here, there) for here, there in pairs if here != there and here.startswith("L")][-1]
+    call = row.trace.splitlines()[int(here[1:].split()[0]) - 1].partition(" ")[2]
+    answers = [answer.partition(" = ")[2].removeprefix("-1 ") for answer in (here, there)]
+    return [row.name, "`" + call.replace("|", "\\|") + "`", *answers]
+
+
+def errors() -> list[str]:
+    """The rows in which two tests of a call hold, and the two sides report different ones."""
+    told = [error_cells(row) for row in read_rows()[1] if row.name.startswith("error-")]
+    return marked([["Name", "Call", "Program", "Kernel"], ["---"] * 4, *told])
+
+
 def put(page: str) -> str:
-    """The page with the table between its marks."""
-    made = "\n".join([BEGIN, "", *lines(), "", END])
-    return re.sub(f"{re.escape(BEGIN)}.*{re.escape(END)}", lambda _: made, page, flags=re.DOTALL)
+    """The page with each table between its marks."""
+    for (begin, end), made in ((VERSIONS, lines()), (ERRORS, errors())):
+        text = "\n".join([begin, "", *made, "", end])
+        page = re.sub(f"{re.escape(begin)}.*{re.escape(end)}", lambda _: text, page, flags=re.DOTALL)
+    return page

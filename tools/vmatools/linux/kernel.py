@@ -1,6 +1,7 @@
 """A kernel: its version, a machine's settings, and the process that makes the calls."""
 from __future__ import annotations
 
+from collections.abc import Iterator
 from dataclasses import asdict, dataclass, field, fields, replace
 from pathlib import Path
 
@@ -41,6 +42,13 @@ class Settings:
                 raise WrongOracle(f"{name} is set twice")
             values[name] = value_of(name, value)
         return replace(self, **values)
+
+    def others(self) -> Iterator[tuple[str, Settings]]:
+        """The same with another of the few values that a setting has, and the word that sets it."""
+        choices: dict[str, tuple[str, ...]] = {"keys": ("0", "1"), **CHOICES}
+        for name, values in choices.items():
+            for word in (f"{name}={value}" for value in values if value != str(getattr(self, name))):
+                yield word, self.changed([word])
 
 
 def value_of(name: str, text: str) -> int | str:

@@ -43,7 +43,7 @@ def chosen(count: int) -> Iterator[tuple[str, Trace]]:
         kind, kernel = KINDS[number % len(KINDS)], among[number // len(KINDS) % len(among)]
         trace = with_lists(drawn(kind, f"vectors {number}", LINES, kernel))
         found = apart(read_trace(trace.text().encode()), among)
-        if found and min(told[place] for place in found) < count // 3:
+        if found and min(told[place] for place in found) < max(count // 3, 1):
             told.update(found)
             left -= 1
             yield f"{kind}-{number}", trace

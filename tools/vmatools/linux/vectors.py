@@ -8,11 +8,13 @@ from dataclasses import fields, replace
 from pathlib import Path
 from typing import NamedTuple
 
+from ..traces import Trace, read_trace
 from .kernel import Kernel, Process, kernel_of
 from .versions import WrongOracle
 
 ANSWER = "-- answer\n"
 FILE = "vectors.gz"
+DIRECTED = "directed-"  # how the name of a trace begins that was written for one rule, and not drawn
 
 
 class Vector(NamedTuple):
@@ -40,6 +42,16 @@ def written(kernel: Kernel, vectors: Iterable[Vector]) -> bytes:
     head = f"# {kernel.words()}\n# process {process_words(kernel.process)}\n"
     text = head + "".join(f"== {one.name}\n{one.trace}{ANSWER}{one.answer}" for one in vectors)
     return gzip.compress(text.encode(), 9, mtime=0)
+
+
+def recorded(folder: Path) -> dict[str, Trace]:
+    """The traces by name of all versions' files in a folder, the directed ones last. Each version can be asked them again."""
+    texts = {one.name: one.trace for path in sorted(folder.glob(f"*/{FILE}")) for one in read(path)[1]}
+    return {name: read_trace(texts[name].encode()) for name in sorted(texts, key=is_directed)}
+
+
+def is_directed(name: str) -> bool:
+    return name.startswith(DIRECTED)
 
 
 def read(path: Path) -> tuple[Kernel, list[Vector]]:

@@ -25,8 +25,8 @@ import sys
 from pathlib import Path
 
 from ..console import MOST_BYTES, Failure, make_folder, named, open_file, printable, say, whole_text, write_file
-from ..explanations import explain
 from ..model import Space as Model, answer, permissions
+from ..texts.explanations import explain
 from ..traces import LIMITS, PAGE, BadLine, Line, read_trace
 from ..words import number
 from .areas import Area, Section, is_of, read_sections, top_of

@@ -4,7 +4,7 @@ from __future__ import annotations
 from collections import Counter
 
 from ..console import counted, printable, say
-from ..linux_calls import ADVICE, CHANGES
+from ..texts.linux_calls import ADVICE, CHANGES
 from .areas import Area
 from .log import Log
 from .processes import CALLS, Processes, Space

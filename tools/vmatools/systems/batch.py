@@ -18,8 +18,9 @@ from collections.abc import Iterator, Sequence
 from dataclasses import dataclass
 from typing import IO
 
-from .. import children, console
-from ..program import why_not_run
+from .. import console
+from ..running import children
+from ..running.program import busy, why_not_run
 from .capabilities import PROBE, Capabilities, split
 from .running import ended, read_some, write_all
 
@@ -89,9 +90,8 @@ class Adapter:
 
     def exchange(self, process: subprocess.Popen[bytes], request: bytes, end: float) -> Answer:
         assert process.stdin is not None and process.stdout is not None
-        sender = threading.Thread(target=send, args=(process.stdin.fileno(), request), daemon=True)
         if len(request) > select.PIPE_BUF:  # the adapter may write before it has read all
-            sender.start()
+            threading.Thread(target=send, args=(process.stdin.fileno(), request), daemon=True).start()
         else:
             send(process.stdin.fileno(), request)
         data = bytearray()
@@ -180,9 +180,10 @@ class Adapters:
         came = f"`{console.printable(answer.output)}`" if answer.output else "nothing"
         last = answer.message.strip().splitlines()[-1:]
         said = f", with `{console.printable(last[0])}` on standard error" if last else ""
+        why = busy() if answer.fault == DOES_NOT_END else ""
         raise console.Failure(
             f"the adapter {answer.fault} in {time.monotonic() - begin:.0f} seconds: `{sent}` was sent, and {came} came{said}; "
-            "does it speak --batch? (docs/COMPARE.md)"
+            f"does it speak --batch? (docs/COMPARE.md){'; ' * bool(why)}{why}"
         )
 
     def close(self) -> None:

@@ -3,14 +3,17 @@ from __future__ import annotations
 
 import argparse
 import re
+import time
 from collections.abc import Iterator
 from contextlib import ExitStack, contextmanager
 
-from .. import console, generator, program, windows
-from ..campaign import Settings
-from ..comparison import Sides
-from ..conformance import CANNOT_RUN
-from ..live import LiveAdapter
+from .. import console
+from ..comparing import generator, windows
+from ..comparing.campaign import Settings
+from ..comparing.comparison import Sides
+from ..comparing.conformance import CANNOT_RUN
+from ..running import program
+from ..running.live import LiveAdapter
 from ..traces import PAGE, Trace, read_trace
 from .batch import Adapters
 from .known import KNOWN, MACHINE_SECONDS, WINDOW, system_of
@@ -58,7 +61,7 @@ def take_system(options: argparse.Namespace) -> None:
         options.jobs, options.seconds, options.shrink_seconds = 1, MACHINE_SECONDS, MACHINE_SECONDS
         options.kind_seconds = MACHINE_KIND_SECONDS
     if not options.runs and not options.for_seconds and not options.only and not options.traces:
-        options.for_seconds = FOR_SECONDS
+        options.for_seconds, options.begin = FOR_SECONDS, None  # which begins when the system has begun
 
 
 def words_of(options: argparse.Namespace) -> list[str]:
@@ -98,6 +101,7 @@ def prepared(options: argparse.Namespace, settings: Settings, sides: Sides) -> I
             stack.callback(sides.live.close)
         if options.window or options.system:
             settings.fit = fit_of(options, sides)
+        options.begin = options.begin or time.monotonic()
         if options.window and options.profile == generator.IN_TURN:
             settings.profiles = windows.PROFILES
         if options.window:

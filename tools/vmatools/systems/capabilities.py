@@ -18,7 +18,7 @@ FLAGS: dict[str, dict[str, int]] = {"mmap": MAP, "mremap": MREMAP}  # the fourth
 
 @dataclass(frozen=True)
 class Capabilities:
-    """What a system has: a way to fit traces, as those of vmatools.windows."""
+    """What a system has: a way to fit traces, as those of vmatools.comparing.windows."""
 
     words: frozenset[str]
 

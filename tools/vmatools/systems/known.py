@@ -42,7 +42,7 @@ class System:
     boots: Boot | None = None
     image: str = ""  # its kernel, the newest that is installed by default
     seconds: float = 5.0  # how long a trace may take there
-    has_keys: bool = True  # whether protection keys can be on there, as the processor says (CPUID, OSPKE)
+    has_keys: bool = True  # whether protection keys can be on there
 
     def runner(self, is_served: bool) -> Runner:
         """What runs scripts in this system: in a process for all of them, or in one for each."""
@@ -105,7 +105,7 @@ KNOWN = {
             "runsc",
             ("runsc", "--rootless", "--network=none", "--platform=ptrace", "do"),
         ),
-        System("uml", "user-mode Linux", "user-mode-linux", boots=Boot.USER_MODE, seconds=20),
+        System("uml", "user-mode Linux", "user-mode-linux", boots=Boot.USER_MODE, seconds=20, has_keys=False),
         System(
             "machine",
             "a kernel of Debian under qemu-system",

@@ -12,7 +12,7 @@ import tempfile
 from collections.abc import Callable, Sequence
 from pathlib import Path
 
-from .. import children
+from ..running import children
 from .places import Refused
 from .running import Port
 

@@ -9,9 +9,11 @@ from collections.abc import Iterator, Sequence
 from dataclasses import dataclass, field, replace
 from pathlib import Path
 
-from .. import console, program, windows
-from ..generator import Generator
+from .. import console
+from ..comparing import windows
+from ..comparing.generator import Generator
 from ..outputs import is_list, parts_of
+from ..running import program
 from ..traces import LIMITS, PAGE, Line, Trace
 from . import known, machines
 from .adapter import Adapter

@@ -6,10 +6,11 @@ import re
 from dataclasses import dataclass, replace
 from pathlib import Path
 
-from .. import console, program
+from .. import console
 from ..linux import kernel as linux
 from ..linux.areas import NotModelled
 from ..oracles import Oracle
+from ..running import program
 from ..traces import BadLine, read_trace
 from .adapter import Adapter
 from .known import system_of

@@ -17,7 +17,7 @@ from dataclasses import dataclass, field
 from pathlib import Path
 from typing import IO, Protocol
 
-from .. import children
+from ..running import children
 from .places import Refused
 
 NO_RANDOMISATION = 0x0040000

@@ -6,7 +6,8 @@ from collections.abc import Iterator, Sequence
 from dataclasses import dataclass
 from pathlib import Path
 
-from .. import outputs, program
+from .. import outputs
+from ..running import program
 from ..traces import read_trace
 from .adapter import Adapter
 from .known import system_of

@@ -8,8 +8,10 @@ import re
 import sys
 from collections.abc import Callable
 
-from .. import judging, loads, maps_texts
-from ..serial import serial_output
+from ..comparing import judging
+from ..profile import loads
+from ..profile.serial import serial_output
+from ..texts import maps_texts
 from ..traces import LIMITS, MOST_NUMBER, BadLine, Line, Reader, Trace, number_of, read_trace
 from . import scripts
 

@@ -11,7 +11,7 @@ from collections.abc import Callable
 
 from .. import model, traces
 from ..linux.areas import NotModelled
-from ..serial import ModelSpace
+from ..profile.serial import ModelSpace
 from ..traces import BadLine, Line, Trace
 
 PIECE = 65_536  # bytes of a read
@@ -87,7 +87,7 @@ class Session:
             raise BadLine("Number", "query")
         space = self.space()
         place = model.first_above(space.areas, address // traces.PAGE)
-        return [space.maps_line(space.areas[place])] if place < len(space.areas) else ["none"]
+        return [space.maps_line(space.areas[place]).rstrip(" ")] if place < len(space.areas) else ["none"]
 
     def result(self, line: Line) -> list[str]:
         try:

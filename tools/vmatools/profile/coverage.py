@@ -8,9 +8,9 @@ from __future__ import annotations
 from collections import Counter
 from collections.abc import Iterator
 
-from .model import Area, Space, index_of, joins
+from ..model import Area, Space, index_of, joins
+from ..traces import Trace
 from .serial import serial_output
-from .traces import Trace
 
 # Of each table its rows: what the model notes behind the name of the table, and the test or the case as the table has
 # it.

@@ -6,7 +6,7 @@ import itertools
 import os
 import signal
 import time
-from collections import Counter
+from collections import Counter, deque
 from collections.abc import Callable, Iterable, Iterator
 from concurrent.futures import FIRST_COMPLETED, Future, ThreadPoolExecutor, wait
 from contextlib import contextmanager, suppress
@@ -16,24 +16,30 @@ from queue import SimpleQueue
 from types import FrameType
 from typing import Any, NamedTuple, Optional, Union
 
-from . import children, coverage, generator, outputs
+from .. import outputs
+from ..console import Failure, Progress, say
+from ..oracles import PROFILE, Oracle
+from ..profile import coverage
+from ..running import children
+from ..systems.capabilities import Capabilities
+from ..traces import BadLine, Trace, read_trace
+from ..words import repeated
+from . import conformance, generator
 from .answers import answers_of
 from .comparison import Examined, Found, Sides, Stopped, examine, without_all
-from .console import Failure, Progress, say
+from .corpus import Corpus
+from .findings import Finding, Findings, Journal, Kind, Pairs
 from .fitting import fitted
-from .findings import Finding, Findings, Journal, Kind
 from .keeping import Kept
-from .oracles import PROFILE, Oracle
 from .reports import Report
 from .smaller import Smaller
-from .systems.capabilities import Capabilities
-from .traces import BadLine, Trace, read_trace
 from .windows import EmptyFit, Fit
-from .words import repeated
 
 QUIET_SECONDS = 30  # a line says how far the run is, where nobody looks at a terminal
 MOST_OPEN = 10  # kinds of differences at which a run ends
 KIND_SECONDS = 10.0  # for making the trace of a kind small
+WORKER_SECONDS = 0.05  # for the traces that a worker takes at once, which are so many at most
+MOST_AT_ONCE = 32
 
 
 @dataclass
@@ -60,6 +66,7 @@ class Settings:
     fit: Optional[Union[Fit, EmptyFit, Capabilities]] = None  # how traces become such as the system can run
     words: list[str] = field(default_factory=list)  # those that a command needs to repeat a finding
     suite: list[Path] = field(default_factory=list)  # cases that are run before random traces
+    grows: bool = False  # whether random traces are those of a corpus
 
     def identity(self) -> dict[str, Any]:
         """What the findings depend on."""
@@ -84,20 +91,42 @@ class Source(NamedTuple):
     is_kept: bool = False
 
 
-Told = tuple[Examined, Counter[str]]  # what a trace has shown, and the rows that it reaches
+class Told(NamedTuple):
+    """What a trace has shown, and the rows that it reaches."""
+
+    source: Source
+    examined: Examined
+    rows: Counter[str]
 
 
-def sources(settings: Settings) -> Iterator[Source]:
+def corpus_of(settings: Settings, kept: Kept) -> Corpus:
+    """What random traces are made of: the cases of the suite, and what was kept of earlier runs."""
+
+    def seeds() -> Iterator[Trace]:
+        for path in [*conformance.cases_in_order(False), *kept.seeds]:
+            trace = kept_trace(0, path).draw()
+            if settings.fit is None or settings.fit.keeps(trace):
+                yield trace
+
+    is_fitted = settings.oracle.kernel is not None
+    return Corpus(settings.seed, settings.lines, settings.profiles, seeds(), is_fitted, kept.write_seed)
+
+
+def sources(settings: Settings, corpus: Optional[Corpus] = None) -> Iterator[Source]:
     """The traces of a run."""
+    corpus = corpus or corpus_of(settings, Kept())
     if settings.folder:
         numbered: Iterator[tuple[int, Optional[Path]]] = enumerate(files_of(settings.folder))
     elif settings.only:
-        numbered = ((number, None) for number in settings.only)
+        numbered = ((number, None) for number in sorted(settings.only))
     else:
         yield from (kept_trace(number, path) for number, path in enumerate(settings.suite))
         numbered = ((number, None) for number in (itertools.count() if settings.runs is None else range(settings.runs)))
     for number, path in numbered:
-        yield kept_trace(number, path) if path else drawn_trace(settings, number)
+        if path:
+            yield kept_trace(number, path)
+        else:
+            yield grown_trace(settings, number, corpus) if settings.grows else drawn_trace(settings, number)
 
 
 def files_of(folder: Path) -> list[Path]:
@@ -120,6 +149,11 @@ def kept_trace(number: int, path: Path) -> Source:
             raise Failure(f"{path}: {error.strerror}") from None
 
     return Source(number, str(path), ["--traces", str(path)], read)
+
+
+def grown_trace(settings: Settings, number: int, corpus: Corpus) -> Source:
+    trace, what = corpus.trace(number)
+    return Source(number, f"trace {number} of seed {settings.seed}, {what}", ["--only", str(number)], lambda: trace)
 
 
 def drawn_trace(settings: Settings, number: int) -> Source:
@@ -148,7 +182,10 @@ class Campaign:
         self.report, self.kept = report, kept or Kept()
         self.progress, self.pool = Progress(), ThreadPoolExecutor(max_workers=settings.jobs)
         self.small = ThreadPoolExecutor(max_workers=1)  # makes one kind small after the other
-        self.examining: dict[Future[Told], Source] = {}
+        self.corpus = corpus_of(settings, self.kept)
+        self.waiting: deque[Source] = deque()  # what a worker had no time for
+        self.at_once = 1  # traces that a worker takes
+        self.examining: dict[Future[list[Told]], list[Source]] = {}
         self.shrinking: dict[Future[Optional[Finding]], str] = {}
         self.told: SimpleQueue[tuple[Source, Found]] = SimpleQueue()  # by the workers, at once
         self.found: dict[str, list[Finding]] = {}  # of each trace that runs, what it has shown until now
@@ -191,7 +228,7 @@ class Campaign:
     def run(self) -> None:
         """Examines the traces, those that were kept first, and makes each new kind small at once."""
         kept = [kept_trace(place, path)._replace(is_kept=True) for place, path in enumerate(self.kept.before)]
-        rest = itertools.chain(kept, sources(self.settings))
+        rest = itertools.chain(kept, sources(self.settings, self.corpus))
         self.keep_lacks(self.settings.fit.lacks if isinstance(self.settings.fit, (Fit, EmptyFit)) else ())
         try:
             while not self.is_over:
@@ -204,22 +241,41 @@ class Campaign:
                 self.tell()
         finally:
             self.give_up()
+            self.findings.pairs = Pairs(len(self.corpus.known), self.corpus.before, self.corpus.late)
             self.progress.clear()
 
     def fill(self, rest: Iterator[Source]) -> None:
         """Has as many traces run as workers are free: what is made small comes first."""
         most = self.settings.jobs // 2 if self.shrinking else self.settings.jobs + 1
-        while len(self.examining) < most and not self.findings.is_full and (source := next(rest, None)):
-            self.examining[self.pool.submit(self.examined, source)] = source
+        while len(self.examining) < most and not self.findings.is_full:
+            taken = [self.waiting.popleft() for _ in range(min(self.at_once, len(self.waiting)))]
+            taken += itertools.islice(rest, self.at_once - len(taken))
+            if not taken:
+                break
+            self.examining[self.pool.submit(self.examined_all, taken)] = taken
+
+    def examined_all(self, taken: list[Source]) -> list[Told]:
+        """What a worker makes of some traces in a short time, of the first in any."""
+        end = time.monotonic() + WORKER_SECONDS
+        told: list[Told] = []
+        for source in taken:
+            if told and time.monotonic() > end:
+                break
+            told.append(self.examined(source))
+        return told
 
     def take(self) -> None:
         """Takes what is done by now."""
         done = [future for future in self.examining if future.done()]
         self.take_told()
         for future in done:
-            source = self.examining.pop(future)
-            if not self.findings.is_full or source.name in self.found:
-                self.keep(source, *future.result())
+            taken, told = self.examining.pop(future), future.result()
+            is_quick = len(told) == len(taken)
+            self.at_once = min(self.at_once * 2, MOST_AT_ONCE) if is_quick else max(len(told), 1)
+            self.waiting += taken[len(told) :]
+            for one in told:
+                if not self.findings.is_full or one.source.name in self.found:
+                    self.keep(*one)
         for small in [small for small in self.shrinking if small.done()]:
             self.keep_small(self.shrinking.pop(small), small.result())
 
@@ -259,9 +315,11 @@ class Campaign:
             trace = trace if source.is_kept and fit.keeps(trace) else fit.fitted(trace)
         elif self.settings.oracle.kernel:
             trace = fitted(trace, self.settings.oracle.kernel.settings.min)
-        self.sides.confirm(trace)
+        if not self.sides.has_session(trace):
+            self.sides.confirm(trace)
         rows = coverage.rows_of(trace) if self.settings.has_coverage else Counter[str]()
-        return examine(self.sides, trace, self.settings.most, lambda one: self.told.put((source, one))), rows
+        told = examine(self.sides, trace, self.settings.most, lambda one: self.told.put((source, one)))
+        return Told(source, told, rows)
 
     def keep(self, source: Source, told: Examined, rows: Counter[str]) -> None:
         """Counts what a trace has shown."""
@@ -275,12 +333,15 @@ class Campaign:
         self.findings.is_cut |= told.has_more
         self.findings.add(found, told.aside)
         self.findings.coverage.update(rows)
-        if source.is_kept and not found:
+        if source.is_kept and not found and self.kept.before[Path(source.name)]:
             self.findings.agree.append(source.name)
 
     def finding(self, source: Source, one: Found) -> Finding:
         name = "/".join(outputs.kind_of(one.difference))
-        return Finding(name, one.difference, one.trace.text(), source.name, self.repeat(source))
+        is_numbered = not self.settings.grows or self.findings.baseline.of(name)  # others depend on what was kept
+        path = None if is_numbered else self.kept.path_of(name)
+        words = ["--traces", str(path)] if path else source.words
+        return Finding(name, one.difference, one.trace.text(), source.name, self.repeat(words))
 
     def keep_lacks(self, lacks: Iterable[str]) -> None:
         """An operation that the system hasn't is told once."""
@@ -303,10 +364,10 @@ class Campaign:
         if self.journal:
             self.journal.write(finding.event(what, **more))
 
-    def repeat(self, source: Source) -> str:
+    def repeat(self, words: list[str]) -> str:
         """The one command that repeats a finding."""
         system = self.settings.command if self.settings.command[:1] == ["--system"] else ["--", *self.settings.command]
-        return repeated("compare", [*self.settings.words, *source.words, *system])
+        return repeated("compare", [*self.settings.words, *words, *system])
 
     def tell(self) -> None:
         """Says how far the run is."""

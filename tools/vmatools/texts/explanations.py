@@ -5,9 +5,8 @@ import difflib
 import re
 from collections.abc import Callable, Iterable, Mapping
 
-from . import console
-from .linux_calls import ADVICE, BEGINNINGS, CHANGES
-from .traces import (
+from .. import console
+from ..traces import (
     CALLS,
     FORMS,
     LIMITS,
@@ -22,10 +21,11 @@ from .traces import (
     BadLine,
     Source,
     Trace,
+    flags_text,
     read_trace,
-    word_text,
     words_of,
 )
+from .linux_calls import ADVICE, BEGINNINGS, CHANGES
 
 ALL_FORMS: dict[str, list[str]] = {**SETTINGS, **FORMS}
 FLAG_WORDS = {"PROT": "a protection", "MAP": "a mapping's flags", "MREMAP": "the flags of mremap"}
@@ -319,7 +319,7 @@ def flag(bad: BadLine, text: str, words: list[str], word: str) -> str:
     what = FLAG_WORDS[bad.about]
     if re.fullmatch("[0-9]+|0x[0-9a-fA-F]+", word):
         value = int(word, 16 if word.startswith("0x") else 10)
-        named = word_text(bad.about, value) if value and not value & ~sum(table.values()) else None
+        named = flags_text(bad.about, value) if value and not value & ~sum(table.values()) else None
         has = f": {named} has these bits" if named else ""
         return f"{shown(word)} is a number, and names joined by `|`, or 0, have to stand for {what}{has}"
     if name in table:

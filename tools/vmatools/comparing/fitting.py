@@ -3,7 +3,7 @@ from __future__ import annotations
 
 from typing import Optional
 
-from .traces import PAGE, Trace
+from ..traces import PAGE, Trace
 
 KERNEL_TOPS = 0x155555556000, 0x7FFFF7FFF000  # where a kernel can begin its search, by its stack limit
 

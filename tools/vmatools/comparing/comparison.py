@@ -10,16 +10,16 @@ from fnmatch import fnmatchcase
 from functools import lru_cache
 from typing import NamedTuple, Optional, Union
 
+from ..console import Failure
+from ..linux.areas import NotModelled
+from ..model import Space
+from ..oracles import PROFILE, Oracle, without
+from ..outputs import Difference, Pair, answer_of, difference_of, end_of, is_list, kind_of, pairs_of, parts_of
+from ..profile.serial import serial_output
+from ..running.program import Ran, run
+from ..systems.batch import Adapters, Answer
+from ..traces import FORMS, LIMITS, BadLine, Line, Trace, read_trace
 from .conformance import CANNOT_RUN, NOT_THERE
-from .console import Failure
-from .linux.areas import NotModelled
-from .model import Space
-from .oracles import PROFILE, Oracle, without
-from .outputs import Difference, Pair, answer_of, difference_of, end_of, is_list, kind_of, pairs_of, parts_of
-from .program import Ran, run
-from .serial import serial_output
-from .systems.batch import Adapters, Answer
-from .traces import FORMS, LIMITS, BadLine, Line, Trace, read_trace
 
 PROGRAM_SECONDS = 600
 MOST_FINDINGS = 12  # of one trace
@@ -76,6 +76,11 @@ class Sides:
             return self.shown(self.oracle.output(trace))
         return self.shown(serial_output(trace) if self.adapters else self.program_output(trace))
 
+    def right(self, trace: Trace) -> str:
+        """The same, by a session with the program where that can give it: then no model has to."""
+        live = None if self.oracle.kernel else self.by_live(trace)
+        return self.here(trace) if live is None else self.shown(live)
+
     def confirm(self, trace: Trace) -> None:
         """Ends the comparison where the model, which stands in for the program, answers a trace otherwise."""
         if self.adapters and not self.oracle.kernel and self.program_output(trace) != serial_output(trace):
@@ -96,21 +101,25 @@ class Sides:
         live = self.by_live(trace)
         return self.by_serial(trace) if live is None else live
 
+    def has_session(self, trace: Trace) -> bool:
+        """Whether a session with the program can answer it."""
+        return self.live is not None and all(line.word != "fork" for line in trace.lines)
+
     def by_live(self, trace: Trace) -> Optional[str]:
-        """What a session answers; nothing where there is none, where the trace forks, and where `serial` has to say why not."""
-        if self.live is None or any(line.word == "fork" for line in trace.lines):
+        """What a session answers; nothing where none can, and where `serial` has to say why not."""
+        if self.live is None or not self.has_session(trace):
             return None
-        answer = self.live.run(trace.text().encode(), PROGRAM_SECONDS)
+        answer = self.live.run(trace.data, PROGRAM_SECONDS)
         return None if answer.fault else answer.output
 
     def by_serial(self, trace: Trace) -> str:
-        ran = run([self.program, "serial"], trace.text().encode(), PROGRAM_SECONDS)
+        ran = run([self.program, "serial"], trace.data, PROGRAM_SECONDS)
         if ran.fault:
             raise CannotRun(f"the program {ran.fault} on a trace, with `{ran.message.strip()[:200]}` on standard error")
         return ran.output
 
     def there(self, trace: Trace, seconds: Optional[float] = None) -> Ran:
-        text, limit = trace.text().encode(), seconds or self.seconds
+        text, limit = trace.data, seconds or self.seconds
         ran: Union[Answer, Ran] = self.adapters.run(text, limit) if self.adapters else run(self.command, text, limit)
         return Ran(self.shown(ran.output), ran.fault or (None if ran.output else WRITES_NOTHING), ran.message)
 
@@ -134,12 +143,13 @@ class Sides:
         there = self.there(trace, seconds)
         if there.fault:
             return Difference("run", "an output", there.fault, None, [], there.message.splitlines()[-3:])
+        here = self.right(trace)
+        if here == there.output:
+            return None
         ended = self.end_in(trace, there.output)
         if ended:
             return ended
-        here = self.here(trace)
-        if here == there.output:
-            return None
+        self.confirm(trace)
         pair = next(self.unlike_pairs(here, there.output), None)
         if pair:
             return difference_of(pair.here, pair.there, words_of(trace))

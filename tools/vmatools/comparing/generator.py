@@ -6,13 +6,13 @@ One line in six is spoiled in one place, so that each error comes too.
 from __future__ import annotations
 
 import random
-from collections.abc import Sequence
+from collections.abc import Callable, Sequence
 from dataclasses import dataclass, field
 from typing import Any, Optional, TypeVar
 
+from ..model import DEFAULT_MIN, DEFAULT_TOP, FLOOR, Area, Space, is_free, pages_of
+from ..traces import CALLS, FORMS, LIMITS, MAP, MREMAP, PAGE, PROT, USER_PAGES, File, Line, Trace
 from .fitting import fitted
-from .model import DEFAULT_MIN, DEFAULT_TOP, FLOOR, Area, Space, answer, is_free
-from .traces import CALLS, FORMS, LIMITS, MAP, MREMAP, PAGE, PROT, USER_PAGES, File, Line, Trace
 
 T = TypeVar("T")
 Arguments = list[Any]
@@ -69,6 +69,27 @@ FILES = {
     "touch": 5,
     "maps": 1,
 }
+DEEP = {
+    "map_fixed": 3,
+    "map_beside": 4,
+    "map_between": 4,
+    "map_far": 3,
+    "hint_at_border": 4,
+    "map_growing": 2,
+    "map_below_grower": 2,
+    "touch_below": 3,
+    "protect_as_neighbour": 6,
+    "protect_none": 4,
+    "to_hole": 4,
+    "unmap": 2,
+    "seal": 1,
+    "resize": 2,
+    "grow_to_neighbour": 3,
+    "move_beside": 6,
+    "touch": 2,
+    "fork": 1,
+    "brk": 2,
+}
 PROFILES = {
     "few": Profile("few areas, close together", BASIC),
     "many": Profile(
@@ -88,13 +109,24 @@ PROFILES = {
         "areas that grow downwards", {**BASIC, "map_growing": 8, "touch_below": 16}, settings=("lowest",)
     ),
     "brk": Profile(
-        "the break of a heap", {**BASIC, "brk": 14, "map_over_break": 3, "seal_heap": 2}, settings=("heap", "few")
+        "the break of a heap",
+        {**BASIC, "brk": 14, "map_over_break": 3, "seal_heap": 2},
+        files=1,
+        settings=("heap", "few"),
     ),
     "mseal": Profile("sealed pages", {**BASIC, "seal": 4, "protect_to_sealed": 2, "cut_sealed": 2}),
     "fork": Profile(
         "child spaces, with a heap, seals and stacks",
         {**BASIC, "map_shared": 2, "fork": 5, "brk": 8, "seal": 3, "map_growing": 3, "touch_below": 4},
         settings=("heap",),
+    ),
+    "deep": Profile(
+        "neighbours that join or nearly do, borders, and what was moved, split or without rights before",
+        DEEP,
+        [LOW, LOW, FLOOR - 3],
+        pages=16,
+        files=2,
+        settings=("heap", "few"),
     ),
     "wide": Profile(
         "version 2, with addresses above 47 bits", {**BASIC, "huge": 2}, [USER_PAGES[1] - 12, USER_PAGES[2] - 12]
@@ -105,30 +137,15 @@ IN_TURN = [name for name in PROFILES if name != "wide"]
 MIXED = ["few", "files", "mremap", "faults", "edges", "limits", "growing", "brk", "mseal"]
 
 
-class Generator:
-    """Draws one trace."""
+class Recipes:
+    """Draws single lines for a trace, about what a space has mapped."""
 
-    def __init__(self, name: str, seed: str, lines: int, threads: int = 0, is_fitted: bool = False) -> None:
-        """`threads` is how many run at once, where they do, and `is_fitted` whether the running kernel has to have the
-        settings."""
-        self.random = random.Random(f"{name} {seed}")
-        self.profile = self.mixed() if name == "mix" else PROFILES[name]
-        self.lines = lines * 10 if name == "many" else lines
-        self.at_once, self.children = threads, self.pick([1, 2, LIMITS["forks"]])
-        self.threads = list(range(threads)) if threads else [0, 1] if name == "faults" else [0]
-        self.base = self.pick(self.profile.bases)
-        self.trace = Trace(version=2 if name == "wide" else 1)
-        self.set_up()
-        if is_fitted:
-            self.trace = fitted(self.trace)
-        self.spaces = {0: Space(self.trace)}
+    def __init__(self, source: random.Random, profile: Profile, trace: Trace, base: int) -> None:
+        self.random, self.profile, self.trace, self.base = source, profile, trace, base
+        self.at_once, self.children = 0, LIMITS["forks"]
+        self.threads = [0]
+        self.spaces = {0: Space(trace)}
         self.space: Space = self.spaces[0]
-
-    def mixed(self) -> Profile:
-        parts = [PROFILES[part] for part in self.random.sample(MIXED, 3)]
-        weights = {name: sum(other.weights.get(name, 0) for other in parts) for part in parts for name in part.weights}
-        settings = tuple(name for part in parts for name in part.settings)
-        return Profile("", weights, self.pick(parts).bases, files=max(part.files for part in parts), settings=settings)
 
     # Drawing
 
@@ -137,24 +154,6 @@ class Generator:
 
     def often(self, percent: int) -> bool:
         return self.random.randrange(100) < percent
-
-    def set_up(self) -> None:
-        settings = self.trace.settings
-        if "limit" in self.profile.settings:
-            settings["limit"] = self.pick([1, 2, 3, 4, 5, 6, 8])
-        if "top" in self.profile.settings and self.often(50):
-            settings["top"] = PAGE * self.pick([1, DEFAULT_MIN + 1, LOW + 6, FLOOR + 2, DEFAULT_TOP - 5, USER_PAGES[1]])
-        if "min" in self.profile.settings and self.often(50):
-            settings["min"] = PAGE * self.pick([1, DEFAULT_MIN - 1, LOW + 2, FLOOR + 1])
-        if "few" in self.profile.settings and self.often(20):
-            settings["limit"] = self.pick([4, 5, 6, 8])
-        if "lowest" in self.profile.settings and self.often(40):
-            settings["min"] = PAGE * (self.base + 3)
-        if "heap" in self.profile.settings:
-            settings["heap"] = PAGE * (self.base + self.random.randrange(12))
-        for number in range(self.profile.files):
-            mode, size = self.pick(MODES[number]), self.pick([0, 1, 4096, 5000, 9000, 65536])
-            self.trace.files.append(File(number + 3, mode, size, 8, 1, number + 11, f"/srv/file-{number + 3}"))
 
     def page(self) -> int:
         return self.base + self.random.randrange(self.profile.pages)
@@ -235,9 +234,10 @@ class Generator:
         return self.map_fixed(flags=self.pick([FIXED, 0]), kind=SHARED | ANONYMOUS)
 
     def map_file(self) -> Drawn:
-        if not self.trace.files:
+        readable = [file for file in self.trace.files if "r" in file.mode]
+        if not readable:
             return self.map_fixed()
-        file = self.pick([file for file in self.trace.files if "r" in file.mode])
+        file = self.pick(readable)
         kind = self.pick([PRIVATE, PRIVATE, SHARED])
         prot = self.pick([READ, READ, READ | EXEC]) if kind == SHARED and "w" not in file.mode else None
         flags = self.pick([FIXED, FIXED, 0])
@@ -378,12 +378,105 @@ class Generator:
         if not self.space.heap or start < self.space.min:
             return self.map_fixed()
         pages = end - start + self.pick([1, 1, 2])
-        return "mmap", [start * PAGE, pages * PAGE, self.prot(), PRIVATE | ANONYMOUS | FIXED, -1, 0]
+        word, (_, _, *rest) = self.map_file() if self.trace.files and self.often(50) else self.map_fixed()
+        rest[1] |= FIXED
+        return word, [start * PAGE, pages * PAGE, *rest]
 
     def seal_heap(self) -> Drawn:
         """The last page of the heap."""
         end = -(-self.space.break_ // PAGE)
         return ("mseal", [(end - 1) * PAGE, PAGE, 0]) if end > self.space.heap else self.brk()
+
+    # What lies beside each other
+
+    def neighbours(self) -> Optional[tuple[Area, Area]]:
+        """Two areas of which none is between."""
+        pairs = list(zip(self.space.areas, self.space.areas[1:]))
+        return self.pick(pairs) if pairs else None
+
+    def map_between(self) -> Drawn:
+        """From the end of an area up to the next one, with what one of them has: so two or three join, or nearly do."""
+        pair = self.neighbours()
+        if pair is None or not 0 < pair[1].lo - pair[0].hi < 64:
+            return self.map_beside()
+        start, pages, like = pair[0].hi, pair[1].lo - pair[0].hi, self.pick(pair)
+        file = self.space.file_of.get(like.object)
+        kind = (SHARED if like.shared else PRIVATE) | (0 if file else ANONYMOUS) | (GROWS if like.grows else 0)
+        descriptor, offset = (file.descriptor, max(like.offset + start - like.lo, 0)) if file else (-1, 0)
+        return "mmap", [start * PAGE, pages * PAGE, like.prot, kind | FIXED, descriptor, offset * PAGE]
+
+    def map_far(self) -> Drawn:
+        """Of a file, near an offset of 32 bits, or of the last that there is."""
+        word, arguments = self.map_file()
+        pages = pages_of(arguments[1])
+        far = self.pick([2**20 - 1, 2**20, 2**32 - pages, 2**51 - 1 - pages, 2**51 - pages])
+        return word, [*arguments[:5], far * PAGE] if arguments[4] >= 0 else arguments
+
+    def hint_at_border(self) -> Drawn:
+        """Without a fixed place, asked for beside an area, over its end, or at an end of memory."""
+        area, pages = self.area(), self.pages()
+        ends = [self.space.min, self.space.min - 1, self.space.top - pages, self.space.top, self.space.limit - pages, 0]
+        places = [area.hi, area.lo - pages, area.hi - 1, area.lo - pages + 1, area.lo] if area else []
+        page = max(self.pick(places * 2 + ends), 0)
+        flags = self.pick([PRIVATE, PRIVATE, SHARED]) | ANONYMOUS
+        return "mmap", [page * PAGE + self.pick([0, 0, 0, 1, PAGE - 1]), self.length(pages), self.prot(), flags, -1, 0]
+
+    def map_below_grower(self) -> Drawn:
+        """A page or two below an area that grows, or right at it."""
+        growing = [area for area in self.space.areas if area.grows and area.lo > 4]
+        if not growing:
+            return self.map_growing()
+        end, pages = self.pick(growing).lo - self.pick([0, 1, 1, 2]), self.pick([1, 2])
+        flags = PRIVATE | ANONYMOUS | FIXED | self.pick([0, 0, GROWS])
+        return "mmap", [max(end - pages, 0) * PAGE, pages * PAGE, self.prot(), flags, -1, 0]
+
+    def protect_as_neighbour(self) -> Drawn:
+        """An area, or its part beside the neighbour, gets what that has."""
+        pair = self.neighbours()
+        if pair is None:
+            return self.protect()
+        (one, other), is_upper = pair, self.often(50)
+        area, prot = (other, one.prot) if is_upper else (one, other.prot)
+        pages = self.pick([area.hi - area.lo, area.hi - area.lo, 1])
+        start = area.lo if is_upper else area.hi - pages
+        return "mprotect", [start * PAGE, self.length(pages), prot]
+
+    def protect_none(self) -> Drawn:
+        """An area, or a part of it, loses its rights, or has some again."""
+        area = self.area()
+        if area is None:
+            return self.map_fixed()
+        start, pages = self.range() if self.often(40) else (area.lo, area.hi - area.lo)
+        return "mprotect", [start * PAGE, pages * PAGE, 0 if area.prot else self.prot()]
+
+    def to_hole(self) -> Drawn:
+        """From within an area up to a page of the hole behind it, or from the hole before it."""
+        area = self.area()
+        if area is None:
+            return self.map_fixed()
+        start, end = self.pick([(area.hi - 1, area.hi + 1), (area.lo - 1, area.lo + 1), (area.lo, area.hi + 1)])
+        start, end = max(start, 0) * PAGE, end * PAGE
+        return self.pick([("mprotect", [start, end - start, self.prot()]), ("munmap", [start, end - start])])
+
+    def grow_to_neighbour(self) -> Drawn:
+        """An mremap in place up to the next area, or a page less or more."""
+        pair = self.neighbours()
+        if pair is None or pair[1].lo - pair[0].hi > 64:
+            return self.resize()
+        area, room = pair[0], pair[1].lo - pair[0].hi
+        olds = self.pick([1, area.hi - area.lo])
+        news = max(olds + room + self.pick([-1, 0, 0, 1]), 1)
+        return "mremap", [(area.hi - olds) * PAGE, olds * PAGE, news * PAGE, self.pick([0, MAYMOVE])]
+
+    def move_beside(self) -> Drawn:
+        """An area, or an end of it, to where it touches another one, or what is left of itself."""
+        area, other = self.area(), self.area()
+        if area is None or other is None:
+            return self.map_fixed()
+        olds = self.pick([area.hi - area.lo, 1])
+        start, news = self.pick([area.lo, area.hi - olds]), max(olds + self.pick([0, 0, 0, -1, 1]), 1)
+        to = max(self.pick([other.hi, other.lo - news, other.lo, start + olds, start - news]), 0)
+        return "mremap", [start * PAGE, olds * PAGE, news * PAGE, MAYMOVE | TO_FIXED, to * PAGE]
 
     def maps(self) -> Drawn:
         is_full = sum(line.word == "maps" for line in self.trace.lines) >= LIMITS["maps"]
@@ -489,6 +582,58 @@ class Generator:
         ]
         return self.pick(choices + [[(area.hi - 1) * PAGE, "r"] for area in past_end[:2]])
 
+
+class Generator(Recipes):
+    """Draws one trace."""
+
+    def __init__(
+        self,
+        name: str,
+        seed: str,
+        lines: int,
+        threads: int = 0,
+        is_fitted: bool = False,
+        space_of: Callable[[Trace], Space] = Space,
+    ) -> None:
+        """`threads` is how many run at once, where they do, `is_fitted` whether the running kernel has to have the settings,
+        and `space_of` makes the space that answers the lines."""
+        self.random = random.Random(f"{name} {seed}")
+        self.profile = self.mixed() if name == "mix" else PROFILES[name]
+        self.lines = lines * 10 if name == "many" else lines
+        self.at_once, self.children = threads, self.pick([1, 2, LIMITS["forks"]])
+        self.threads = list(range(threads)) if threads else [0, 1] if name == "faults" else [0]
+        self.base = self.pick(self.profile.bases)
+        self.trace = Trace(version=2 if name == "wide" else 1)
+        self.set_up()
+        if is_fitted:
+            self.trace = fitted(self.trace)
+        self.spaces = {0: space_of(self.trace)}
+        self.space: Space = self.spaces[0]
+
+    def mixed(self) -> Profile:
+        parts = [PROFILES[part] for part in self.random.sample(MIXED, 3)]
+        weights = {name: sum(other.weights.get(name, 0) for other in parts) for part in parts for name in part.weights}
+        settings = tuple(name for part in parts for name in part.settings)
+        return Profile("", weights, self.pick(parts).bases, files=max(part.files for part in parts), settings=settings)
+
+    def set_up(self) -> None:
+        settings = self.trace.settings
+        if "limit" in self.profile.settings:
+            settings["limit"] = self.pick([1, 2, 3, 4, 5, 6, 8])
+        if "top" in self.profile.settings and self.often(50):
+            settings["top"] = PAGE * self.pick([1, DEFAULT_MIN + 1, LOW + 6, FLOOR + 2, DEFAULT_TOP - 5, USER_PAGES[1]])
+        if "min" in self.profile.settings and self.often(50):
+            settings["min"] = PAGE * self.pick([1, DEFAULT_MIN - 1, LOW + 2, FLOOR + 1])
+        if "few" in self.profile.settings and self.often(20):
+            settings["limit"] = self.pick([4, 5, 6, 8])
+        if "lowest" in self.profile.settings and self.often(40):
+            settings["min"] = PAGE * (self.base + 3)
+        if "heap" in self.profile.settings:
+            settings["heap"] = PAGE * (self.base + self.random.randrange(12))
+        for number in range(self.profile.files):
+            mode, size = self.pick(MODES[number]), self.pick([0, 1, 4096, 5000, 9000, 65536])
+            self.trace.files.append(File(number + 3, mode, size, 8, 1, number + 11, f"/srv/file-{number + 3}"))
+
     # A trace
 
     def draw(self) -> Trace:
@@ -522,7 +667,7 @@ class Generator:
         if word == "fork":
             self.spaces[arguments[0]] = self.space.child()
         else:
-            answer(self.space, line)
+            self.space.answer(line)
 
 
 def within(kind: str, value: Any) -> Any:

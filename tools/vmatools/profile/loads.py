@@ -4,7 +4,7 @@ They are written from the section "Generated traces" of docs/TRACE.md alone, and
 """
 from __future__ import annotations
 
-from .traces import PAGE
+from ..traces import PAGE
 
 MULTIPLIER, INCREMENT = 6364136223846793005, 1442695040888963407
 FIRST_ADDRESS = 0x10000000

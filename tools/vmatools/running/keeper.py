@@ -2,7 +2,8 @@
 
 `children` runs this as a process of its own. Standard input has a line `+PID` for each session that is started, and `-PID`
 where one has ended. At its end, which is the tool's, all processes of the sessions that are left are killed, with what these
-have started in sessions of their own.
+have started in sessions of their own. So are those that have the pipe open which the one argument names: a process has it from
+its first moment, and the tool may end before it has written `+PID`.
 """
 from __future__ import annotations
 
@@ -24,6 +25,16 @@ def families() -> dict[int, tuple[int, int]]:
                 state, parent, _, session = file.read().rpartition(b")")[2].split()[:4]
             if state not in b"ZX":
                 found[int(name)] = int(parent), int(session)
+    return found
+
+
+def opened(process: int) -> set[str]:
+    """What a process has open, by the names of /proc."""
+    folder, found = f"{PROCESSES}/{process}/fd", set[str]()
+    with contextlib.suppress(OSError):
+        for name in os.listdir(folder):
+            with contextlib.suppress(OSError):  # closed since then
+                found.add(os.readlink(f"{folder}/{name}"))
     return found
 
 
@@ -63,7 +74,8 @@ def main() -> None:
     sessions: set[int] = set()
     for line in sys.stdin:
         (sessions.add if line[0] == "+" else sessions.discard)(int(line[1:]))
-    end(sessions)
+    marks = set(sys.argv[1:])
+    end(sessions | {process for process in families() if marks & opened(process)} - {os.getpid()})
 
 
 if __name__ == "__main__":

@@ -5,8 +5,8 @@ import re
 from collections.abc import Mapping
 from typing import TYPE_CHECKING
 
-from .outputs import Difference
-from .traces import CALLS, MAP, read_trace
+from ..outputs import Difference
+from ..traces import CALLS, MAP, read_trace
 
 if TYPE_CHECKING:
     from .findings import Finding

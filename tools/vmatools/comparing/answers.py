@@ -5,15 +5,15 @@ from collections.abc import Callable, Iterator, Sequence
 from dataclasses import fields, replace
 from typing import NamedTuple, Optional
 
+from ..linux import rows
+from ..linux.areas import NotModelled
+from ..linux.kernel import Kernel, kernel_of
+from ..linux.versions import Rules as LinuxRules, table, text_of
+from ..oracles import PROFILE, Oracle, left
+from ..outputs import Difference, is_list, parts_of
+from ..running.program import Ran
+from ..traces import Trace
 from .comparison import PROGRAM_SECONDS, Rules, Sides, list_lines, with_reads
-from .linux import rows
-from .linux.areas import NotModelled
-from .linux.kernel import Kernel, kernel_of
-from .linux.versions import Rules as LinuxRules, table, text_of
-from .oracles import PROFILE, Oracle, left
-from .outputs import Difference, is_list, parts_of
-from .program import Ran
-from .traces import Trace
 
 Lines = Sequence[str]
 Shown = Callable[[str], str]
@@ -123,7 +123,10 @@ def answers_of(trace: Trace, difference: Difference, right: Oracle, shown: Shown
     by_version = {kernel: lines(Oracle(kernel)) for kernel in kernels}
     newest = right.kernel or kernels[-1]
     sides = {newest.name: lines(Oracle(newest)), "profile": lines(PROFILE), "yours": difference.there_lines}
-    return Answers(sides, sentence(trace, right, sides, by_version))
+    others = {word: replace(newest, settings=settings) for word, settings in newest.settings.others()}
+    is_known = difference.there_lines in by_version.values()
+    word = next((word for word in others if not is_known and lines(Oracle(others[word])) == difference.there_lines), "")
+    return Answers(sides, sentence(trace, right, sides, by_version, word))
 
 
 def of_space(place: Place, difference: Difference, right: Oracle, shown: Shown) -> Place:
@@ -142,12 +145,16 @@ def versions_of(right: Oracle) -> list[Kernel]:
     return [replace(right.kernel, version=version, rules=rules) for version, rules in table().items()]
 
 
-def sentence(trace: Trace, right: Oracle, sides: dict[str, Lines], by_version: dict[Kernel, Lines]) -> str:
+def sentence(trace: Trace, right: Oracle, sides: dict[str, Lines], by_version: dict[Kernel, Lines], setting: str = "") -> str:
+    """Who is right. The setting is one with which Linux answers as yours, where no version does without it."""
     yours, profile = sides["yours"], sides["profile"]
     as_yours = [kernel for kernel, lines in by_version.items() if lines == yours]
     as_profile = [kernel for kernel, lines in by_version.items() if lines == profile]
     row = row_of(trace, right.kernel or list(by_version)[-1])
     named = f" (row {row})" if row else ""
+    if setting:
+        linux = right.name if right.kernel else list(sides)[0]
+        return f"{linux} doesn't answer as yours; with {setting} it does."
     if right.kernel is None:
         if len(as_yours) == len(by_version):
             return f"Every Linux answers as yours; the profile differs from it{named}."

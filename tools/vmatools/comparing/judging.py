@@ -13,10 +13,10 @@ from collections.abc import Iterator
 from dataclasses import dataclass, field
 from typing import NoReturn
 
-from .console import Progress, printable
-from .oracles import PROFILE, Oracle
-from .serial import AnySpace
-from .traces import Line, Source, Trace
+from ..console import Progress, printable
+from ..oracles import PROFILE, Oracle
+from ..profile.serial import AnySpace
+from ..traces import Line, Source, Trace
 
 ITEM = re.compile("L([0-9]{1,20}) t([0-9]{1,20}) v([0-9]{1,20}) = ")
 MOST_LINE = 16_384  # no output has a line of so many bytes

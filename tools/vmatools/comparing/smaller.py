@@ -7,10 +7,11 @@ from concurrent.futures import Executor
 from dataclasses import dataclass, field
 from typing import Optional
 
-from . import outputs, shrinking
+from .. import outputs
+from ..traces import Trace, read_trace
+from . import shrinking
 from .comparison import HANGS, Sides, is_trace, may_answer
 from .findings import Finding
-from .traces import Trace, read_trace
 
 
 @dataclass

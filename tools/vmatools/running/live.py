@@ -3,8 +3,8 @@ from __future__ import annotations
 
 import re
 
-from .conformance import CANNOT_RUN
-from .systems.batch import Adapter, Answer, text_of
+from ..comparing.conformance import CANNOT_RUN
+from ..systems.batch import Adapter, Answer, text_of
 
 NEW = b"new\n"
 # Behind each trace, in an address space of its own: the answer to `query` is that of no line of a trace.
@@ -32,6 +32,8 @@ def results_of(output: str) -> list[str]:
 
 def as_serial(output: str) -> str:
     """The answers to a trace in the order of `serial`: by version, the call first, then the reads by ascending thread."""
+    if output.count(" t0 v") == output.count("\nL") + output.startswith("L"):  # of one thread they're in it
+        return output
     keyed: list[tuple[tuple[int, bool, int], str]] = []
     before = 0
     *results, last = results_of(output) or [""]

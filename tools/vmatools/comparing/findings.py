@@ -8,12 +8,12 @@ from collections.abc import Iterable, Iterator
 from dataclasses import dataclass, field, replace
 from fnmatch import fnmatchcase
 from pathlib import Path
-from typing import Any, Optional
+from typing import Any, NamedTuple, Optional
 
+from ..console import Failure, counted, whole
+from ..outputs import Difference
 from . import junit, ranking
 from .answers import Answers
-from .console import Failure, counted, whole
-from .outputs import Difference
 
 Name = tuple[str, str, str]
 
@@ -114,6 +114,19 @@ class Baseline:
 # All that a run has found
 
 
+class Pairs(NamedTuple):
+    """How many pairs traces have reached, as far as they were measured: all, those of the suite and of what was kept, and those
+    that the last tenth of the others reached first."""
+
+    all: int = 0
+    before: int = 0
+    late: int = 0
+
+    def __str__(self) -> str:
+        by = f"{self.before} of them by the suite and what was kept, {self.late} by the last tenth of the run"
+        return f"{self.all} pairs reached, {by}"
+
+
 @dataclass
 class Findings:
     """What some traces have shown."""
@@ -122,6 +135,7 @@ class Findings:
     kinds: dict[str, Kind] = field(default_factory=dict)
     aside: Counter[str] = field(default_factory=Counter)
     coverage: Counter[str] = field(default_factory=Counter)
+    pairs: Pairs = Pairs()
     traces: int = 0
     differing: int = 0
     known_alone: int = 0  # traces that differ in known ways alone
@@ -194,6 +208,7 @@ class Findings:
             "known_alone": self.known_alone,
             "aside": dict(self.aside),
             "coverage": dict(self.coverage),
+            **({"pairs": self.pairs._asdict()} if self.pairs.all else {}),
             "known": known,
             "left_out": dict(self.left_out),
             "lacks": sorted(self.lacks),

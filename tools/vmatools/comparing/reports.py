@@ -5,10 +5,12 @@ from __future__ import annotations
 from collections.abc import Iterator
 from typing import TextIO
 
-from . import console, coverage, outputs, ranking
+from .. import console, outputs
+from ..oracles import PROFILE, PROFILE_NAME, Oracle
+from ..profile import coverage
+from . import ranking
 from .conformance import NOT_THERE
 from .findings import Finding, Findings, Kind
-from .oracles import PROFILE, PROFILE_NAME, Oracle
 
 PROGRAM = "program"  # the profile's side
 MOST_LINES = 12  # of an answer
@@ -91,6 +93,8 @@ class Report:
             self.line(line)
         if has_coverage:
             self.line("\n".join(coverage.report(findings.coverage)))
+        if findings.pairs.all:
+            self.line(str(findings.pairs))
         if stopped:
             self.line(f"stopped by {stopped}")
         known_alone = f", {findings.known_alone} of them in known ways alone" if findings.known_alone else ""

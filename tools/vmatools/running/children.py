@@ -10,41 +10,55 @@ import sys
 import threading
 from collections.abc import Iterable, Sequence
 from concurrent.futures import Future, wait
-from typing import Any
+from typing import Any, NamedTuple
 
 from . import keeper
 
 RUNNING: set[subprocess.Popen[bytes]] = set()
 LOCK = threading.Lock()
-TO_KEEPER: list[int] = []  # the descriptor by which the keeper is told, where it runs
 
 
-def start(command: Sequence[str | os.PathLike[str]], **streams: Any) -> subprocess.Popen[bytes]:
+class Keeper(NamedTuple):
+    """The process that ends all others after this one."""
+
+    told: int  # the descriptor by which it is told
+    mark: int  # one that each process has from its first moment, before the keeper is told of it
+
+
+KEEPERS: list[Keeper] = []  # the one, where it runs
+
+
+def start(
+    command: Sequence[str | os.PathLike[str]], pass_fds: Sequence[int] = (), **streams: Any
+) -> subprocess.Popen[bytes]:
     """Starts a command. Whoever starts it calls `end` when it has ended, or is to end."""
     with LOCK:
-        if not TO_KEEPER:
-            TO_KEEPER.append(start_keeper())
-    process = subprocess.Popen(command, start_new_session=True, **streams)
+        if not KEEPERS:
+            KEEPERS.append(start_keeper())
+    kept = [*pass_fds, KEEPERS[0].mark]
+    process = subprocess.Popen(command, start_new_session=True, pass_fds=kept, **streams)
     tell(f"+{process.pid}")
     RUNNING.add(process)
     return process
 
 
-def start_keeper() -> int:
-    """Starts the process that ends all others after this one. It sees the end of this one by the end of its input."""
-    source, target = os.pipe()
-    nothing = [(os.POSIX_SPAWN_OPEN, number, os.devnull, os.O_WRONLY, 0) for number in (1, 2)]
-    words = [sys.executable, "-I", "-S", keeper.__file__]
-    os.posix_spawn(
-        words[0], words, os.environ, file_actions=[(os.POSIX_SPAWN_DUP2, source, 0), *nothing], setsid=True
-    )
+def start_keeper() -> Keeper:
+    """Starts it. It sees the end of this process by the end of its input, and has the mark as its standard output, so that no
+    other pipe gets that name."""
+    source, told = os.pipe()
+    mark, other = os.pipe()
+    words = [sys.executable, "-I", "-S", keeper.__file__, f"pipe:[{os.fstat(mark).st_ino}]"]
+    actions = [(os.POSIX_SPAWN_DUP2, source, 0), (os.POSIX_SPAWN_DUP2, mark, 1)]
+    errors = (os.POSIX_SPAWN_OPEN, 2, os.devnull, os.O_WRONLY, 0)
+    os.posix_spawn(words[0], words, os.environ, file_actions=[*actions, errors], setsid=True)
     os.close(source)
-    return target
+    os.close(other)
+    return Keeper(told, mark)
 
 
 def tell(line: str) -> None:
     with contextlib.suppress(OSError):
-        os.write(TO_KEEPER[0], f"{line}\n".encode())
+        os.write(KEEPERS[0].told, f"{line}\n".encode())
 
 
 def stop(process: subprocess.Popen[bytes]) -> None:

@@ -11,10 +11,10 @@ import random
 from collections.abc import Collection, Iterator
 from dataclasses import dataclass
 
-from . import model
-from .systems.empty import LOWEST_TOP, TOP
-from .systems.places import Window, finds_place, leaves
-from .traces import MAP, MREMAP, PAGE, Line, Trace
+from .. import model
+from ..systems.empty import LOWEST_TOP, TOP
+from ..systems.places import Window, finds_place, leaves
+from ..traces import MAP, MREMAP, PAGE, Line, Trace
 
 PROFILES = [
     "few",

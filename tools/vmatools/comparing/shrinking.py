@@ -4,8 +4,8 @@ from __future__ import annotations
 from collections.abc import Callable, Iterable, Iterator, Sequence
 from typing import Any, Optional
 
-from .model import Area, Space, answer
-from .traces import FORMS, MAP, MREMAP, PAGE, PROT, TABLES, USER_PAGES, File, Line, Trace
+from ..model import Area, Space, answer
+from ..traces import FORMS, MAP, MREMAP, PAGE, PROT, TABLES, USER_PAGES, File, Line, Trace
 
 BASE = 0x10  # the page at which the lowest range of a small trace begins
 HINT_COST = 1000  # a hint tells a reader less than a fixed place, or than none
@@ -337,8 +337,16 @@ class Shrinker:
         return self.repeated(candidates)
 
     def one_thread(self) -> bool:
-        children = {line.arguments[0] for line in self.trace.lines if line.word == "fork"}
-        lines = [line if line.thread in children else line._replace(thread=0) for line in self.trace.lines]
+        """One thread for all lines that are no child's, and the next numbers for children."""
+        children = [line.arguments[0] for line in self.trace.lines if line.word == "fork"]
+        numbers = {child: place for place, child in enumerate(children, 1)}
+        lines = [
+            line._replace(
+                thread=numbers.get(line.thread, 0),
+                arguments=[numbers[line.arguments[0]]] if line.word == "fork" else line.arguments,
+            )
+            for line in self.trace.lines
+        ]
         return self.takes([self.trace.with_lines(lines)])
 
     def without_notes(self) -> bool:

@@ -5,9 +5,9 @@ from collections.abc import Callable
 from dataclasses import dataclass, field
 from typing import Protocol
 
-from .linux.areas import NotModelled
-from .model import Area, Space
-from .traces import Line, Trace
+from ..linux.areas import NotModelled
+from ..model import Area, Space
+from ..traces import Line, Trace
 
 
 class AnySpace(Protocol):

@@ -6,11 +6,11 @@ import io
 import re
 from typing import Optional
 
+from ..outputs import ITEM, Difference, answer_of
+from ..running.program import run
+from ..traces import Trace
 from .comparison import PROGRAM_SECONDS, CannotRun, Sides, words_of
 from .judging import first_wrong
-from .outputs import ITEM, Difference, answer_of
-from .program import run
-from .traces import Trace
 
 REPEATS = 3  # runs of one trace, since threads come in another order each time
 

@@ -1,4 +1,5 @@
-"""A folder in which a comparison keeps what it has found: a trace for each kind of difference, which the next one runs first.
+"""A folder in which a comparison keeps what it has found: a trace for each kind of difference, which the next one runs first,
+and the traces that reached something new, which the next one runs behind them and goes on from.
 
 A file is written beside its place and renamed, so that each is whole whenever the run is ended.
 """
@@ -10,7 +11,8 @@ import re
 from dataclasses import dataclass, field
 from pathlib import Path
 
-from . import console
+from .. import console
+from ..traces import Trace
 from .findings import Finding
 
 MARK = "# vma compare: "  # the line of a kept trace that has the name of its kind
@@ -30,8 +32,23 @@ class Kept:
         console.make_folder(folder)
         if not os.access(folder, os.W_OK | os.X_OK):
             raise console.Failure(f"nothing can be written to the folder {folder}")
-        traces = sorted(folder.glob("*.trace"))
-        return cls(folder, {path: name_in(console.whole_text(str(path))) for path in traces})
+        found = {path: name_in(console.whole_text(str(path))) for path in sorted(folder.glob("*.trace"))}
+        return cls(folder, dict(sorted(found.items(), key=lambda item: not item[1])))
+
+    @property
+    def seeds(self) -> list[Path]:
+        """The traces that are kept for what they reach."""
+        return [path for path, name in self.before.items() if not name]
+
+    def path_of(self, name: str) -> Path | None:
+        """Where the trace of a kind is."""
+        return self.folder and self.folder / f"{stem_of(name)}.trace"
+
+    def write_seed(self, trace: Trace) -> None:
+        """A trace that reached something new, by a name that depends on it alone."""
+        text = trace.numbered().text()
+        if self.folder:
+            console.replace_file(self.folder / f"reaches-{hashlib.sha256(text.encode()).hexdigest()[:16]}.trace", text)
 
     def write(self, finding: Finding, ending: str, text: str) -> None:
         """A file of a finding's kind, whole."""

@@ -17,9 +17,10 @@ from dataclasses import dataclass
 from pathlib import Path
 from typing import IO
 
-from . import children, console
+from .. import console
+from . import children
 
-HERE = Path(__file__).resolve().parent
+HERE = Path(__file__).resolve().parents[1]
 
 
 def top_of(tools: Path) -> Path:
@@ -180,6 +181,14 @@ def why_not_run(name: str | os.PathLike[str], error: OSError) -> str:
     elif error.errno == errno.ENOENT and os.path.exists(name):
         why = "the interpreter that it names is not there"
     return f"{os.fspath(name)} cannot be run: {why}"
+
+
+def busy() -> str:
+    """That the machine is busy, if it is: what doesn't end in time may be slow for that alone."""
+    load, processors = os.getloadavg()[0], os.cpu_count() or 1
+    if load <= processors:
+        return ""
+    return f"this machine is busy (load average {load:.0f}, processors: {processors}): give it more time by --seconds"
 
 
 def begin(command: Sequence[str | os.PathLike[str]], source: IO[bytes]) -> subprocess.Popen[bytes]:

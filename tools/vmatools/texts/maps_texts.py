@@ -8,7 +8,7 @@ import re
 from collections.abc import Callable, Iterator
 from typing import NamedTuple
 
-from .traces import LIMITS, MOST_AREAS, MOST_NUMBER, MOST_SIZE, PAGE, USER_PAGES
+from ..traces import LIMITS, MOST_AREAS, MOST_NUMBER, MOST_SIZE, PAGE, USER_PAGES
 
 MOST_LINE = 8_192
 LEAST_ADDRESS = 0x10000

@@ -8,15 +8,16 @@ from collections import Counter
 from collections.abc import Iterable, Iterator, Sequence
 from dataclasses import dataclass
 from enum import Enum
+from itertools import zip_longest
 from pathlib import Path
 
+from ..console import Failure
+from ..linux.areas import NotModelled
+from ..oracles import PROFILE, Oracle
+from ..outputs import Difference, first_difference
+from ..running.program import TOP, Ran
+from ..traces import read_trace
 from . import junit, ranking
-from .console import Failure
-from .linux.areas import NotModelled
-from .oracles import PROFILE, Oracle
-from .outputs import Difference, first_difference
-from .program import TOP, Ran
-from .traces import read_trace
 
 SUITE = TOP / "suite"
 # What parts the legal outputs of a case with threads, and the outputs of versions of Linux.
@@ -27,8 +28,7 @@ CANNOT_RUN = "ends with status 4"
 NO_SYSTEM = "ends with status 5"
 NOT_THERE = "-1 ENOSYS"  # what a system answers to an operation that it hasn't
 MOST_LINES = 12  # of a trace or an answer that is shown
-# What a case of Linux begins with: the row of docs/KERNEL.md and the versions that were seen to answer so.
-COMMENT = "#"
+COMMENT = "#"  # what a comment of a trace, and the first line of what Linux answers, begins with
 
 
 class Verdict(Enum):
@@ -96,11 +96,14 @@ def sentence(trace: str) -> str:
 
 
 def read_case(path: Path, oracle: Oracle = PROFILE) -> Case:
-    """The case of a trace of the suite. What Linux answers is computed; but what threads may give is the profile's."""
-    trace, legal = path.read_text(encoding="utf-8"), path.with_suffix(".legal")
+    """The case of a trace of the suite. What Linux answers is computed; but what threads may give is the profile's, where
+    Linux wasn't seen to answer otherwise."""
+    trace, legal, linux = path.read_text(encoding="utf-8"), path.with_suffix(".legal"), path.with_suffix(".linux")
     right: tuple[str, ...]
     gap = ""
-    if legal.exists():
+    if legal.exists() and oracle.kernel and linux.exists():
+        right = tuple(part.partition("\n")[2] for part in linux.read_text(encoding="utf-8").split(PART))
+    elif legal.exists():
         right = tuple(legal.read_text(encoding="utf-8").split(PART))
     elif oracle.kernel:
         try:
@@ -125,9 +128,13 @@ def read_suite(folder: Path = SUITE, names: Sequence[str] = (), oracle: Oracle =
 
 
 def cases_in_order(has_wide: bool, folder: Path = SUITE) -> list[Path]:
-    """The traces of the cases that have one right output each, those of addresses of 57 bits only where they are wanted."""
-    paths = (path for path in sorted(folder.glob("*/*.trace")) if not path.with_suffix(".legal").exists())
-    return [path for path in paths if has_wide or path.parent.name != "wide"]
+    """The traces of the cases that have one right output each, one of each group after the other; those of addresses of 57
+    bits only where they are wanted."""
+    groups: dict[str, list[Path]] = {}
+    for path in sorted(folder.glob("*/*.trace")):
+        if not path.with_suffix(".legal").exists() and (has_wide or path.parent.name != "wide"):
+            groups.setdefault(path.parent.name, []).append(path)
+    return [path for turn in zip_longest(*groups.values()) for path in turn if path]
 
 
 def first_wrong(output: str, right: str) -> tuple[int, str, str]:

@@ -1,0 +1,1 @@
+"""Beside a system: traces that are made, answers that are compared, findings that are made small and told."""

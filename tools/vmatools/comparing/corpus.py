@@ -1,0 +1,107 @@
+"""Traces that grow by what they reach: those with a pair that is new are kept and changed, and others are drawn beside them.
+
+A trace depends on the seed, the profiles and the traces with lower numbers, and on nothing that a system answers.
+"""
+from __future__ import annotations
+
+import random
+from collections.abc import Callable, Iterable, Sequence
+
+from ..traces import Trace
+from . import generator
+from .changes import Changer, Entry, entry_of
+from .pairs import Pair, Watched
+
+TURNS = 10  # of so many traces the first is drawn, and the others are kept ones changed, of which some are measured
+MEASURED = (3, 6)
+MOST_LINES = 60
+
+
+class Corpus:
+    """What was kept, and the traces that are made of it. `told` is given each trace that is kept."""
+
+    def __init__(
+        self,
+        seed: int,
+        lines: int,
+        profiles: Sequence[str],
+        seeds: Iterable[Trace],
+        is_fitted: bool = False,
+        told: Callable[[Trace], None] = lambda trace: None,
+    ) -> None:
+        self.seed, self.lines, self.profiles, self.is_fitted = seed, lines, profiles, is_fitted
+        self.seeds, self.told = iter(seeds), told
+        self.random = random.Random(f"corpus {seed}")
+        self.changer = Changer(self.random, MOST_LINES)
+        self.known: set[Pair] = set()
+        self.before = 0  # pairs that the seeds have reached
+        self.entries: list[Entry] = []
+        self.number = 0
+        self.reached: list[int] = []  # how many pairs were known before each trace
+
+    @property
+    def late(self) -> int:
+        """Pairs that the last tenth of the traces reached first."""
+        return len(self.known) - self.reached[len(self.reached) * 9 // 10] if self.reached else 0
+
+    def trace(self, number: int) -> tuple[Trace, str]:
+        """The trace of a number that is none of those that were made, and in words what it was made of."""
+        while self.number < number:
+            self.next()
+        return self.next()
+
+    def next(self) -> tuple[Trace, str]:
+        if not self.number:
+            self.begin()
+        turn, number = self.number % TURNS, self.number
+        self.number += 1
+        self.reached.append(len(self.known))
+        if turn == 0 or not self.entries:
+            name = self.profiles[number // TURNS % len(self.profiles)]
+            return self.drawn(name, number), f"profile {name}"
+        trace = self.changer.changed(self.entry(), self.entry())
+        if turn in MEASURED:
+            self.measure(trace, self.told)
+        return trace.numbered(), "a change of others"
+
+    def begin(self) -> None:
+        for trace in self.seeds:
+            self.measure(trace)
+        self.before = len(self.known)
+
+    def entry(self) -> Entry:
+        """One that was kept, more often a new one."""
+        count = len(self.entries)
+        return self.entries[max(self.random.randrange(count), self.random.randrange(count))]
+
+    def drawn(self, name: str, number: int) -> Trace:
+        """A trace of the generator, whose spaces tell what it reaches."""
+        spaces: list[Watched] = []
+
+        def space_of(trace: Trace) -> Watched:
+            spaces.append(Watched(trace, self.known))
+            return spaces[-1]
+
+        drawn = generator.Generator(name, f"{self.seed} {number}", self.lines, 0, self.is_fitted, space_of)
+        trace = drawn.draw()
+        self.keep(trace, spaces[-1].fresh[0], self.told)
+        return trace
+
+    def measure(self, trace: Trace, told: Callable[[Trace], None] = lambda trace: None) -> None:
+        """Keeps a trace that reaches a new pair."""
+        parent = Watched(trace, self.known)
+        children: dict[int, Watched] = {}
+        for place, line in enumerate(trace.lines, 1):
+            space = children.get(line.thread, parent)
+            if line.word == "fork":
+                children[line.arguments[0]] = space.child()
+            else:
+                space.answer(line._replace(number=place))
+        self.keep(trace, parent.fresh[0], told)
+
+    def keep(self, trace: Trace, last: int, told: Callable[[Trace], None]) -> None:
+        """Keeps a trace up to the last of its lines that reached something new, if one did."""
+        if 0 < last <= MOST_LINES:
+            kept = trace.with_lines(trace.lines[:last])
+            self.entries.append(entry_of(kept))
+            told(kept)

@@ -1,0 +1,1 @@
+"""What traces, lists of areas and calls of Linux say in words."""
