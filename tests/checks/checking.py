@@ -20,7 +20,8 @@ from typing import Any, NoReturn
 TOP = Path(__file__).resolve().parents[2]
 sys.dont_write_bytecode = True
 sys.path[:0] = [str(TOP / "tools"), str(TOP / "tests"), str(TOP)]
-from vmatools import console, program
+from vmatools import console
+from vmatools.running import program
 
 TOOL = Path(sys.argv[0]).stem
 LIVE = program.LIVE.default

@@ -15,9 +15,14 @@ from collections import Counter
 from collections.abc import Callable
 from pathlib import Path
 
-from checking import Failed, answer, check_ended, compare, fail, live_of, passed
 import hostile_inputs as inputs
-from vmatools import explanations, judging, live, maps_texts, serial, traces
+from checking import Failed, answer, check_ended, compare, fail, live_of, passed
+
+from vmatools import traces
+from vmatools.comparing import judging
+from vmatools.profile import serial
+from vmatools.running import live
+from vmatools.texts import explanations, maps_texts
 from vmatools.unproved import scripts, sessions
 
 Answer = tuple[int, bytes, bytes]  # status, standard output, standard error

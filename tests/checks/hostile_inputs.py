@@ -6,8 +6,10 @@ from collections.abc import Callable
 
 import judged_runs
 import limits
-from vmatools import model, serial, traces
-from vmatools.generator import PROFILES, Generator
+
+from vmatools import model, traces
+from vmatools.comparing.generator import PROFILES, Generator
+from vmatools.profile import serial
 from vmatools.traces import PAGE
 from vmatools.unproved import scripts
 

@@ -24,7 +24,9 @@ from pathlib import Path
 from typing import TypeVar
 
 from checking import TOOL, fail, skipped
-from vmatools import judging, traces
+
+from vmatools import traces
+from vmatools.comparing import judging
 
 Choice = TypeVar("Choice")
 

@@ -14,7 +14,10 @@ import random
 import tempfile
 
 from checking import Done, answer, bytes_of, check_ended, compare, fail, passed
-from vmatools import maps_texts, serial, traces
+
+from vmatools import traces
+from vmatools.profile import serial
+from vmatools.texts import maps_texts
 
 Answer = tuple[int, bytes, bytes]  # status, standard output, standard error
 Device = tuple[int, int]

@@ -1,5 +1,6 @@
 """Checks that all that tests/shown.txt names is there, and the Python of the repository by mypy and flake8. No pattern has a
-possessive group, which Python 3.11.2 matches wrongly.
+possessive group, which Python 3.11.2 matches wrongly. A public name of the definitions stands once: linux_rules alone may give a
+definition of the kernel the name that the same thing has in the profile. No crate cites what another keeps in `Internal`.
 
 mypy has to find every function typed, and flake8 nothing, with the settings of pyproject.toml. What is not installed is named
 and passed (Debian packages mypy and flake8).
@@ -14,6 +15,7 @@ import sys
 import tomllib
 from collections.abc import Iterator
 
+import names
 import shown
 from checking import TOP, Options, fail, passed, skipped
 
@@ -42,12 +44,14 @@ def lines_of(done: subprocess.CompletedProcess[str]) -> str:
     return (done.stdout + done.stderr).strip()[:MOST]
 
 
-def check_tool(name: str, words: list[str]) -> None:
+def check_tool(name: str, *calls: list[str]) -> None:
+    """Runs a tool with the words of each call."""
     if shutil.which(name) is None:
         return skipped(name, "it is not installed")
-    done = subprocess.run([name, *words], cwd=TOP, capture_output=True, text=True)
-    if done.returncode:
-        fail(name, f"finds\n{lines_of(done)}")
+    for words in calls:
+        done = subprocess.run([name, *words], cwd=TOP, capture_output=True, text=True)
+        if done.returncode:
+            fail(name, f"finds\n{lines_of(done)}")
     passed(name)
 
 
@@ -86,8 +90,16 @@ def check_patterns() -> None:
     passed("patterns")
 
 
+def check_names() -> None:
+    for title, found in (("names", names.repeated(TOP)), ("Internal", names.trespasses(TOP))):
+        if wrong := "\n".join(found):
+            fail(title, f"of specs/:\n{wrong[:MOST]}")
+        passed(title)
+
+
 def check(_options: Options) -> None:
     check_shown()
+    check_names()
     check_linux_rules()
     check_patterns()
     if sys.version_info < (3, 11):
@@ -95,6 +107,4 @@ def check(_options: Options) -> None:
     settings = tomllib.loads((TOP / "pyproject.toml").read_text(encoding="utf-8"))["tool"]["flake8"]
     words = [f"--{name}={','.join(value) if isinstance(value, list) else value}" for name, value in settings.items()]
     check_tool("flake8", [*words, *FOLDERS, *PROGRAMS])
-    check_tool("mypy", [*TYPED])
-    for program in PROGRAMS:
-        check_tool("mypy", ["--scripts-are-modules", program])
+    check_tool("mypy", [*TYPED], *(["--scripts-are-modules", program] for program in PROGRAMS))

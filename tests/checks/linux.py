@@ -13,12 +13,13 @@ import re
 from dataclasses import replace
 from pathlib import Path
 
+import linux_mutants
 from checking import TOP, fail, passed, skipped  # first: it sets where the tools are found
 
-import linux_mutants
-from vmatools import generator, oracles
-from vmatools.conformance import PART
-from vmatools.fitting import fitted
+from vmatools import oracles
+from vmatools.comparing import generator
+from vmatools.comparing.conformance import PART
+from vmatools.comparing.fitting import fitted
 from vmatools.linux import generators, vectors
 from vmatools.linux.areas import NotModelled
 from vmatools.linux.held import Held, hold, kernel_answer, kernel_under

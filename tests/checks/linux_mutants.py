@@ -14,7 +14,7 @@ from typing import NamedTuple
 
 import vmatools.linux
 from vmatools.linux.kernel import Kernel
-from vmatools.serial import AnySpace, serial_output
+from vmatools.profile.serial import AnySpace, serial_output
 from vmatools.traces import Trace
 
 SOURCE = Path(vmatools.linux.__file__).parent

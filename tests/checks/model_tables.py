@@ -1,4 +1,4 @@
-"""The tables of documents beside the sources: each call's rows by their answers, the numbers of the profile, and the flags."""
+"""The tables of documents beside the sources: the rows of each call, the numbers of the profile, and the flags."""
 from __future__ import annotations
 
 import re
@@ -9,37 +9,9 @@ from pathlib import Path
 TOP = Path(__file__).resolve().parents[2]
 sys.path.insert(0, str(TOP))
 
-from dev.reference.definitions import read_topic  # noqa: E402
+from dev.reference.call_tables import PAGE, put  # noqa: E402
 
-PAGE = Path("docs/MODEL.md")
 FLAGS = Path("docs/TRACE.md")
-RULES = Path("crates/area_rules/specs")
-# The definitions that have the rows of a call, in the order in which these are tested.
-ROWS_OF = {
-    "mmap(2)": ("Mmap", ("mmap_rows", "mmap_placed", "mmap_list_rows")),
-    "munmap(2)": ("Munmap", ("munmap_rows", "munmap_seal_rows")),
-    "mprotect(2)": ("Mprotect", ("protect_request_rows", "mprotect_rows")),
-    "mremap(2)": ("Mremap", ("mremap_rows", "range_rows", "area_rows", "mremap_changed", "mremap_list_rows")),
-    "brk(2)": ("Brk", ("brk_rows",)),
-    "mseal(2)": ("Mseal", ("seal_request_rows", "mseal_rows")),
-}
-ANSWER = re.compile(r"[,=]\s+(?:Refused )?(E[a-z]+|Zero|break_kept|break_moved)\b(?! :)")
-WORDS = {"Zero": "0", "break_kept": "stays", "break_moved": "is the address"}
-
-
-def answers_of(top: Path, file: str, names: tuple[str, ...]) -> list[str]:
-    """The answers of the rows of some definitions, in their order, as the page has them."""
-    topic = read_topic(top / RULES / f"{file}.antt", file)
-    texts = {each.name: each.text for each in topic.definitions}
-    found = [answer for name in names for answer in ANSWER.findall(texts[name])]
-    return [WORDS.get(answer, answer.upper()) for answer in found]
-
-
-def shown_answers(page: str, heading: str) -> list[str]:
-    """The answers of the numbered rows of the first table below a heading."""
-    part = page.partition(f"\n### {heading}\n")[2].partition("\n#")[0]
-    rows = [line.strip("| ").split(" | ") for line in part.splitlines() if re.match(r"\| \d+ \|", line)]
-    return [re.split(r"[,;]", row[2])[0] for row in rows]
 
 
 def number_of(text: str, known: dict[str, str]) -> int:
@@ -61,10 +33,11 @@ def constants(top: Path) -> dict[str, str]:
 def faults(top: Path) -> Iterator[str]:
     """What the page shows otherwise than the sources have it, a line each."""
     page = (top / PAGE).read_text(encoding="utf-8")
-    for heading, (file, names) in ROWS_OF.items():
-        shown, wanted = shown_answers(page, heading), answers_of(top, file, names)
-        if shown != wanted:
-            yield f"{PAGE}: the rows of {heading} answer {', '.join(shown)}, and those of {RULES}/{file}.antt {', '.join(wanted)}"
+    try:
+        if page != put(page, top):
+            yield f"{PAGE}: the tables of the calls are not what the sources say now: run dev/model-tables"
+    except (KeyError, ValueError) as error:
+        yield f"{PAGE}: dev/model-tables makes no tables: {error}"
     known = constants(top)
     shown_numbers = re.findall(r"^\| [^|]+ \| `([A-Z_]+)` \| ([^|]+) \|$", page, re.M)
     flags = re.findall(r"`((?:PROT|MAP|MREMAP)_[A-Z_]+)` (0x[0-9a-f]+)", (top / FLAGS).read_text(encoding="utf-8"))

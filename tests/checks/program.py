@@ -15,7 +15,9 @@ import tempfile
 import time
 
 from checking import Options, Words, answer, bytes_of, check_ended, compare, fail, passed, skipped
-from vmatools import loads, serial, traces
+
+from vmatools import traces
+from vmatools.profile import loads, serial
 
 PAGE = 4096
 OPERATIONS = 1_000_000

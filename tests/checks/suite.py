@@ -13,8 +13,11 @@ from concurrent.futures import ProcessPoolExecutor, ThreadPoolExecutor
 from pathlib import Path
 
 from checking import TOP, fail, passed
+
 from models import cases, mutations
-from vmatools import conformance, coverage, traces, words
+from vmatools import traces, words
+from vmatools.comparing import conformance
+from vmatools.profile import coverage
 
 LEAST = 2  # cases that each row decides
 SEEDS = 60  # of random traces

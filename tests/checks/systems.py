@@ -17,8 +17,10 @@ from collections.abc import Iterator
 from pathlib import Path
 
 from checking import TOOL, fail, passed, skipped
-from vmatools import conformance, console, generator
-from vmatools.program import TOP
+
+from vmatools import console
+from vmatools.comparing import conformance, generator
+from vmatools.running.program import TOP
 from vmatools.systems import batch, building, known, measuring, seen
 from vmatools.systems.places import Refused
 from vmatools.traces import read_trace

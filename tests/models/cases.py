@@ -10,9 +10,11 @@ import re
 from collections.abc import Iterator, Mapping
 from pathlib import Path
 
-from vmatools import model, program, serial, traces
-from vmatools.conformance import PART
+from vmatools import model, traces
+from vmatools.comparing.conformance import PART
 from vmatools.console import Failure
+from vmatools.profile import serial
+from vmatools.running import program
 
 MOST_LINES = 12
 SECONDS = 60

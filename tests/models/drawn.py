@@ -4,7 +4,8 @@ from __future__ import annotations
 import random
 from collections.abc import Iterator
 
-from vmatools import generator, loads
+from vmatools.comparing import generator
+from vmatools.profile import loads
 from vmatools.traces import MAP, MREMAP, PAGE, PROT, USER_PAGES, File, Line, Trace, read_trace
 
 LINES = 30  # operations of a trace

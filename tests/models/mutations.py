@@ -20,7 +20,7 @@ from dataclasses import dataclass
 
 from models.drawn import traces_of
 from vmatools import model
-from vmatools.serial import serial_output
+from vmatools.profile.serial import serial_output
 from vmatools.traces import Trace
 
 SECONDS = 20.0  # of processor time: a changed model that takes longer for all cases is noticed, as it doesn't end

@@ -1,9 +1,9 @@
 """Wrong models by rule: the model of the tools with one thing wrong, which most traces don't show.
 
 The rules: what an operation makes of the pages below its range, in it and above it loses an attribute, or keeps that of what
-was there; a call that a row refuses has changed something nevertheless; and in a state of its own alone a call does too little,
-too much, or something else. `WITNESSES` has for each a trace by which it isn't the model. A change that no search has told
-from the model is none of them.
+was there; a call that a row refuses has another error, or has changed something nevertheless; and in a state of its own alone
+a call does too little, too much, or something else. `WITNESSES` has for each a trace by which it isn't the model. A change that
+no search has told from the model is none of them.
 
     PYTHONPATH=tools:tests python3 -m models.wrong FIRST LAST
 
@@ -19,9 +19,11 @@ from pathlib import Path
 from typing import Any, NamedTuple
 
 from models import drawn
-from vmatools import conformance, coverage, generator, model, serial, traces
-from vmatools.comparison import is_trace
+from vmatools import model, traces
+from vmatools.comparing import conformance, generator
+from vmatools.comparing.comparison import is_trace
 from vmatools.model import Area, Space, areas_in, pages_of
+from vmatools.profile import coverage, serial
 from vmatools.traces import CALLS, PAGE, Trace
 
 WITNESSES = Path(__file__).parent / "wrong.traces"
@@ -199,9 +201,21 @@ def refused_counts(row: str) -> type[Space]:
     return Counting
 
 
+def refused_says(row: str) -> type[Space]:
+    """A call that a row refuses has another error."""
+
+    class Saying(Space):
+        def by(self, name: str, reply: Any) -> Any:
+            other = "ENOMEM" if reply == "EINVAL" else "EINVAL"
+            return super().by(name, other if name == row and isinstance(reply, str) else reply)
+
+    return Saying
+
+
 def refused() -> Iterator[Wrong]:
     for row in ERRORS:
         yield Wrong(f"{row} cuts", refused_cuts(row))
+        yield Wrong(f"{row} has another error", refused_says(row))
         if row.startswith("mmap/"):
             yield Wrong(f"{row} takes a number", refused_counts(row))
     for call in CALLS:

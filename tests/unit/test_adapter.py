@@ -13,10 +13,10 @@ from typing import Any
 
 from vmatools import adapter, model
 from vmatools.adapter import Area, File, Settings
+from vmatools.running.program import TOP
 from vmatools.systems.batch import Adapter, Adapters
 from vmatools.systems.capabilities import Capabilities, split
 from vmatools.traces import PAGE, read_trace
-from vmatools.program import TOP
 
 EXAMPLE = [sys.executable, str(TOP / "examples/batch/adapter.py")]
 ANONYMOUS = "MAP_PRIVATE|MAP_ANONYMOUS"
@@ -75,7 +75,7 @@ class Served(unittest.TestCase):
             "2 fault 0x1f008 w\n1 fault 0x1f008 r\n0 brk 0x201000\n0 maps\n0 fork 5\n5 munmap 0x200000 4096\n5 maps\n"
             "0 mremap 0x1f000 8192 4096 0\n0 mseal 0x1f000 4096 0\n0 mprotect 0x1f000 4096 PROT_READ\n"
         )
-        from vmatools.serial import serial_output
+        from vmatools.profile.serial import serial_output
 
         self.assertEqual(output(ByModel, text), serial_output(read_trace(text.encode())))
 

@@ -2,15 +2,18 @@
 from __future__ import annotations
 
 import argparse
+import time
 import unittest
 from typing import Optional
 from unittest import mock
 
-from vmatools import comparison, console, oracles, program, windows
+from vmatools import console, oracles
 from vmatools.commands import compare
+from vmatools.comparing import comparison, windows
 from vmatools.linux.kernel import running_version
 from vmatools.outputs import Difference
-from vmatools.program import Ran
+from vmatools.running import program
+from vmatools.running.program import Ran
 from vmatools.systems import beside, machines, words
 from vmatools.systems.places import Window
 from vmatools.traces import Trace, read_trace
@@ -57,6 +60,14 @@ class Words(unittest.TestCase):
             beside.take_system(options)
         self.assertEqual((options.oracle.name, options.window, options.jobs), ("linux-6.12.117", None, 1))
         self.assertIsNone(options.for_seconds)
+
+    def test_the_minute_of_a_system_begins_when_it_has_begun(self) -> None:
+        """A machine may take longer than that to boot."""
+        options = options_of("--system", "uml", "--as", "profile")
+        beside.take_system(options)
+        with mock.patch.multiple(beside, Adapters=mock.DEFAULT, fit_of=lambda *_: self.assertIsNone(options.begin)):
+            with beside.prepared(options, mock.Mock(), mock.Mock()):
+                self.assertLess(time.monotonic() - options.begin, beside.FOR_SECONDS)
 
     def test_the_profile_is_a_word_away(self) -> None:
         options = options_of("--system", "native", "--as", "profile")

@@ -11,6 +11,7 @@ from pathlib import Path
 from unittest import mock
 
 import checking
+import documents
 import examples
 import judged_runs
 import kit
@@ -18,6 +19,13 @@ import lint
 import workflows
 
 from models.loading import module_of
+
+
+class Groups(unittest.TestCase):
+    def test_a_crate_in_two_groups_is_counted_twice(self) -> None:
+        rows = "| tree | nodes, walks | nodes |\n| state | nodes | a list |\n"
+        page = f"text\n\n| Group | Crates | What |\n|---|---|---|\n{rows}\nwalks\n"
+        self.assertEqual(documents.groups_of(page), {"nodes": 2, "walks": 1})
 
 
 class Histories(unittest.TestCase):

@@ -11,8 +11,8 @@ import unittest
 from collections.abc import Callable
 from pathlib import Path
 
-from vmatools import children, keeper
-from vmatools.program import TOP
+from vmatools.running import children, keeper
+from vmatools.running.program import TOP
 
 SECONDS = 60  # for what is done at once on a machine that is not busy
 # An adapter that hangs, with a child in its group and one in a session of its own. Each writes its number.
@@ -22,6 +22,20 @@ echo $$ >> {pids}
 sh -c 'echo $$ >> {pids}; while :; do sleep 1; done' &
 setsid sh -c 'echo $$ >> {pids}; while :; do sleep 1; done' &
 while :; do sleep 1; done
+"""
+# A tool that is killed before it can tell the keeper what it has started. What that has started is without a parent by then.
+KILLED = """
+import os, signal, time
+from vmatools.running import children
+
+def kill(line):
+    print(line, flush=True)
+    while os.stat({pids!r}).st_size == 0:
+        time.sleep(0.01)
+    os.kill(os.getpid(), signal.SIGKILL)
+
+children.tell = kill
+children.start(["sh", "-c", "setsid sh -c 'echo $$ >> {pids}; sleep 1000' & read a < {fifo}"], stdout=-3, stderr=-3)
 """
 
 
@@ -92,6 +106,17 @@ class Children(unittest.TestCase):
                     words = ["--jobs", "1", "--seconds", "600", "--program", str(program), "--traces", str(trace), *batch]
                     status, _, _ = self.ended_by(number, "compare", *words, "--", *self.adapter(bool(batch)))
                     self.assertEqual(status, wanted)
+
+    def test_a_tool_that_is_killed_before_the_keeper_knows(self) -> None:
+        fifo = self.top / "fifo"
+        os.mkfifo(fifo)
+        script = KILLED.format(pids=str(self.pids), fifo=fifo)
+        environment = {**os.environ, "PYTHONPATH": str(TOP / "tools")}
+        done = subprocess.run([sys.executable, "-c", script], stdout=subprocess.PIPE, text=True, timeout=SECONDS, env=environment)
+        self.assertEqual(done.returncode, -signal.SIGKILL)
+        started = {int(done.stdout), *self.started()}
+        self.assertEqual(len(started), 2)
+        self.assertTrue(waited(lambda: not started & set(keeper.families())), "what was started runs on")
 
     def test_an_adapter_that_is_too_slow(self) -> None:
         process = children.start(self.adapter())

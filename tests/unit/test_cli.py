@@ -19,9 +19,10 @@ from typing import Any
 from unittest import mock
 
 from models.loading import needs
-from vmatools import VERSION, cli, console, program, versions
+from vmatools import VERSION, cli, console, versions
+from vmatools.running import program
+from vmatools.running.program import TOP
 from vmatools.systems import adapter, batch
-from vmatools.program import TOP
 
 VMA = str(TOP / "tools/vma")
 TRACE = str(TOP / "examples/readme.trace")

@@ -16,29 +16,27 @@ from xml.etree import ElementTree
 
 sys.path[:0] = [str(Path(__file__).resolve().parents[2] / name) for name in ("tools", "tests")]
 from models import mutants
-from vmatools import (
+from vmatools import cli, console, oracles
+from vmatools.commands import compare
+from vmatools.comparing import (
     answers,
     campaign,
-    cli,
     comparison,
-    console,
-    coverage,
     findings,
     generator,
     junit,
     keeping,
-    oracles,
-    program,
     ranking,
     reports,
     shrinking,
     threaded,
 )
-from vmatools.commands import compare
 from vmatools.linux.kernel import Process, Settings, kernel_of
 from vmatools.model import Space
 from vmatools.outputs import Difference, kind_of
-from vmatools.program import Ran
+from vmatools.profile import coverage
+from vmatools.running import program
+from vmatools.running.program import Ran
 from vmatools.systems import rows
 from vmatools.traces import Trace, read_trace
 
@@ -131,10 +129,14 @@ class Linux(unittest.TestCase):
         longer = TWO + b"0 mremap 0x100000 4096 140737488355328 0\n"
         seal = TWO.replace(b"0x101000 4096 PROT_READ", b"0x101000 4096 PROT_NONE") + b"0 mseal 0x101000 4096 0\n"
         seal += b"0 mprotect 0x100000 8192 PROT_EXEC\n"
+        hidden = TWO.replace(b"PROT_READ", b"PROT_EXEC") + b"0 fault 0x100000 r\n"
+        mapped = TWO + b"0 fault 0xffffffffff600000 r\n"
         for right, model, text, wanted in (
             ("linux-6.18", "linux-6.12", longer, "answer as yours; Linux 6.1, 6.12 and 6.16 do (moves_several)."),
             ("linux-6.18", "profile", seal, "Yours is the profile's answer, and no Linux gives it (row seal-prefix)."),
             ("profile", "linux-6.18", longer, "the profile differs from these (row mremap-too-long)."),
+            ("linux-6.18", "linux-6.18,keys=0", hidden, "linux-6.18.44 doesn't answer as yours; with keys=0 it does."),
+            ("profile", "linux-6.18,vsyscall=emulate", mapped, "linux-7.2.12 doesn't answer as yours; with vsyscall=emulate it"),
             ("profile", "linux-7.2", seal, "As yours: Linux 6.12, 6.16, 6.17, 6.18.15, 6.18.44 and 7.2; the profile"),
         ):
             with self.subTest(right=right, model=model):

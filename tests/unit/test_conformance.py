@@ -1,7 +1,11 @@
 """The conformance suite: its cases are read, a run over one is judged, and what came of all is told in each form."""
 from __future__ import annotations
 
+import argparse
+import contextlib
+import io
 import json
+import os
 import subprocess
 import sys
 import tempfile
@@ -9,15 +13,15 @@ import unittest
 import xml.etree.ElementTree as ElementTree
 from dataclasses import replace
 from pathlib import Path
+from unittest import mock
 
 from models import cases
-from vmatools import conformance
 from vmatools.commands import conform
-from vmatools.conformance import Case, Verdict
+from vmatools.comparing import conformance
+from vmatools.comparing.conformance import Case, Verdict
 from vmatools.console import Failure
 from vmatools.oracles import oracle_of
-from vmatools.program import Ran
-from vmatools.program import TOP
+from vmatools.running.program import TOP, Ran
 
 TRACE = "vmatrace 1\n# It maps a page: mmap(2).\n0 mmap 0 4096 PROT_READ MAP_PRIVATE|MAP_ANONYMOUS -1 0\n"
 CASE = Case("mmap", "page", "It maps a page: mmap(2).", TRACE, ("a\nb\n",))
@@ -59,6 +63,13 @@ class Cases(unittest.TestCase):
     def test_with_threads_each_legal_output_is_right(self) -> None:
         (self.top / "mmap/page.legal").write_text("a\nb\n==\nb\na\n")
         self.assertEqual(conformance.read_suite(self.top)[0].right, ("a\nb\n", "b\na\n"))
+
+    def test_with_threads_what_linux_was_seen_to_answer_is_right_for_linux(self) -> None:
+        (self.top / "mmap/page.legal").write_text("a\nb\n==\nb\na\n")
+        (self.top / "mmap/page.linux").write_text("# a-row of docs/KERNEL.md; Linux 6.18.44 answers\nc\n")
+        self.assertEqual(conformance.read_suite(self.top)[0].right, ("a\nb\n", "b\na\n"))
+        as_linux = conformance.read_suite(self.top, oracle=oracle_of("linux-6.18"))
+        self.assertEqual(as_linux[0].right, ("c\n",))
 
 
 class Judging(unittest.TestCase):
@@ -103,6 +114,18 @@ class Forms(unittest.TestCase):
         self.assertEqual(conformance.left_out([one, two, *self.results]), ["left out: 2: it leaves the window"])
         self.assertIn("ok 1 - mmap/page # SKIP line 3: it leaves the window", conformance.as_tap([one]))
         self.assertIn('<skipped message="line 3: it leaves the window" />', "".join(conformance.as_junit([one])))
+
+    def test_what_hangs_on_a_busy_machine_may_be_slow_alone(self) -> None:
+        given = argparse.Namespace(oracle=None, seconds=10, batch=True, system=None, live=None, command=["x"])
+        for load, told in ((100.4, "1 case hung, and this machine is busy (load average 100, processors: 4)"), (3.9, "")):
+            with (
+                mock.patch.multiple(os, getloadavg=lambda: (load, 0.0, 0.0), cpu_count=lambda: 4),
+                contextlib.redirect_stdout(io.StringIO()),
+                contextlib.redirect_stderr(io.StringIO()) as said,
+            ):
+                conform.report([conformance.judged(CASE, Ran("", "does not end", "")), *self.results], given)
+            self.assertIn(told, said.getvalue())
+            self.assertEqual("busy" in said.getvalue(), bool(told))
 
     def test_json_has_a_line_a_case(self) -> None:
         self.assertEqual(

@@ -11,8 +11,7 @@ from xml.etree import ElementTree
 
 from vmatools.drawing.axis import READABLE, Axis
 from vmatools.model import Area
-from vmatools.program import TOP
-
+from vmatools.running.program import TOP
 
 TOUR = [str(TOP / f"examples/tour.{ending}") for ending in ("trace", "out")]
 OUTPUT = Path(TOUR[1]).read_text()

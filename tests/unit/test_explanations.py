@@ -3,7 +3,9 @@ from __future__ import annotations
 
 import unittest
 
-from vmatools import explanations, maps_texts, serial, traces
+from vmatools import traces
+from vmatools.profile import serial
+from vmatools.texts import explanations, maps_texts
 
 HEAD = "vmatrace 1\n"
 MMAP = "0 mmap {} 4096 PROT_READ {} -1 0\n"

@@ -6,7 +6,7 @@ import unittest
 from pathlib import Path
 
 from dev.reference import headline
-from vmatools.program import TOP
+from vmatools.running.program import TOP
 
 RUN = """ghost use Rattle.std.specs.Prelude.{ℕ};
 ghost use Rattle.vma_replay.specs.Giving.{GivesAll};

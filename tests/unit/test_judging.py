@@ -6,8 +6,10 @@ import random
 import unittest
 from xml.etree import ElementTree
 
-from vmatools import console, generator, judging, serial, traces
+from vmatools import console, traces
+from vmatools.comparing import generator, judging
 from vmatools.drawing import page, picture, runs
+from vmatools.profile import serial
 
 FAULTS = b"vmatrace 1\n0 fault 0x10000 r\n0 fault 0x20000 r\n"
 FIRST, SECOND, LIST = b"L2 t0 v0 = SIGSEGV SEGV_MAPERR\n", b"L3 t0 v0 = SIGSEGV SEGV_MAPERR\n", b"maps 0\n"

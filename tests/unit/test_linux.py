@@ -8,11 +8,15 @@ import sys
 import tempfile
 import unittest
 from pathlib import Path
+from unittest import mock
+
+from models.loading import module_of
 
 TOP = Path(__file__).resolve().parents[2]
 sys.path.insert(0, str(TOP / "tools"))
-from vmatools import answers as answers_of_models, oracles, traces
+from vmatools import oracles, traces
 from vmatools.commands import conform
+from vmatools.comparing import answers as answers_of_models
 from vmatools.linux import by_version, generators, selecting, vectors, versions
 from vmatools.linux.areas import NotModelled
 from vmatools.linux.kernel import Kernel, Settings, kernel_of, running_version
@@ -176,15 +180,39 @@ class NotGuessed(unittest.TestCase):
 
 
 class Pages(unittest.TestCase):
-    def test_the_table_by_version_is_the_models(self) -> None:
+    def test_the_tables_of_the_page_are_made(self) -> None:
         page = (TOP / "docs/KERNEL.md").read_text(encoding="utf-8")
-        self.assertEqual(by_version.put(page), page, "dev/kernel-table makes it again")
+        self.assertEqual(by_version.put(page), page, "dev/kernel-table makes them again")
+
+    def test_the_last_call_that_is_answered_otherwise_is_shown(self) -> None:
+        trace = "vmatrace 1\n0 munmap 0 0\n0 mmap 0 4096 PROT_READ MAP_SHARED|MAP_PRIVATE -1 0\n"
+        here, there = ("L2 t0 v1 = 0\nL3 t0 v2 = -1 EINVAL\nmaps 0\n", "L2 t0 v1 = -1 EPERM\nL3 t0 v2 = 0x8000\nmaps 1\n")
+        row = rows.Row("error-of-two", trace, here, there)
+        call = "`mmap 0 4096 PROT_READ MAP_SHARED\\|MAP_PRIVATE -1 0`"
+        self.assertEqual(by_version.error_cells(row), ["error-of-two", call, "EINVAL", "0x8000"])
 
     def test_every_file_of_vectors_is_of_its_version(self) -> None:
         for path in (TOP / "suite/vectors").glob("*/*.gz"):
             kernel, found = vectors.read(path)
             self.assertEqual(versions.text_of(kernel.version), path.parent.name)
             self.assertEqual(vectors.written(kernel, found), path.read_bytes())
+
+    def test_recorded_traces_are_asked_again(self) -> None:
+        """Each once, whichever version has it, and no others where they are enough."""
+        with tempfile.TemporaryDirectory() as folder:
+            given = {"6.12.117": ["hard-1"], "6.17.13": ["directed-a"], "6.18.44": ["directed-a", "directed-b"]}
+            for version, names in given.items():
+                found = [vectors.Vector(name, "vmatrace 1\n0 maps\n", "L2 t0 v0 = maps 0\nmaps 0\n") for name in names]
+                Path(folder, version).mkdir()
+                Path(folder, version, vectors.FILE).write_bytes(vectors.written(kernel_of(version), found))
+            names = ["hard-1", "directed-a", "directed-b"]
+            self.assertEqual(list(vectors.recorded(Path(folder))), names)
+            tool = module_of(TOP / "dev/linux-versions")
+            words = argparse.Namespace(images=["native"], vectors=1, record=Path(folder))
+            with mock.patch.object(tool, "words", lambda: words), mock.patch.object(tool, "hold_image") as hold:
+                self.assertEqual(tool.main(), 0)
+            self.assertEqual([name for name, _ in hold.call_args[0][2]], names)
+            self.assertEqual(len(tool.asked(Path(folder), 3)), len(names) + 3)
 
     def test_a_file_that_is_none_is_named(self) -> None:
         for data in (b"", b"text", gzip.compress(b"# linux-5\n")):
@@ -262,6 +290,7 @@ class Commands(unittest.TestCase):
                 status, output, message = self.vma("live", "--as", name, text=text)
                 told = output.splitlines()
                 self.assertEqual((status, message, told[1], told[2][:22], told[3]), (0, "", second, found, third))
+                self.assertEqual(told[2], told[2].rstrip(" "))
                 self.assertEqual(told[5][18:22], "r--p")  # as far as the sealed page
 
     def test_draw_marks_what_linux_answers_otherwise(self) -> None:

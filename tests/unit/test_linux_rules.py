@@ -8,7 +8,7 @@ from typing import Any
 from dev.linux_rules import choosing, evaluating, plant, planted, planting, recordings, resolving, terms, versions
 from dev.linux_rules.planted import PLANTED
 from vmatools.linux.kernel import Settings
-from vmatools.program import TOP
+from vmatools.running.program import TOP
 from vmatools.traces import read_trace
 
 TRACE = b"""vmatrace 1
@@ -52,9 +52,9 @@ class TestTerms(unittest.TestCase):
         mapped = "Map 1048576 4096 r 18 (pos 3) 0"
         self.assertEqual(
             steps[0].term(trace),
-            f"step 0 ({mapped}) (Ok (Returned 1048576)) (Some (filed 256 257 r false 0 1 ∷ []))",
+            f"kernel_step 0 ({mapped}) (Ok (Returned 1048576)) (Some (filed 256 257 r false 0 1 ∷ []))",
         )
-        self.assertEqual(steps[2].term(trace).split(" (Some")[0], "step 0 (Fork 1) (Ok (Returned 0))")
+        self.assertEqual(steps[2].term(trace).split(" (Some")[0], "kernel_step 0 (Fork 1) (Ok (Returned 0))")
 
     def test_a_line_that_names_no_file_is_no_term(self) -> None:
         with self.assertRaises(terms.Unsayable):
@@ -64,13 +64,6 @@ class TestTerms(unittest.TestCase):
 class TestVersions(unittest.TestCase):
     def test_the_definitions_have_the_table(self) -> None:
         self.assertEqual(versions.compare(TOP), [])
-
-    def test_a_switch_of_the_model_alone_is_none_of_the_definitions(self) -> None:
-        wanted = {"6.1.192": {"a": True, "loses_written": False}}
-        self.assertEqual(list(versions.differences("linux_6_1 = record { a = true }\n", wanted)), [])
-        found = list(versions.differences("linux_6_1 = record { a = true; loses_written = true }\n", wanted))
-        self.assertEqual(len(found), 1)
-        self.assertIn("linux_6_1 has loses_written = True", found[0])
 
     def test_each_kind_of_difference_is_named(self) -> None:
         text = "linux_6_1 = record { a = true; b = false }\nlinux_6_12 = record linux_6_1 { b = true }\nlinux_9_9 = linux_6_1\n"

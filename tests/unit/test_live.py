@@ -11,8 +11,10 @@ from pathlib import Path
 from typing import Any
 from unittest import mock
 
-from vmatools import comparison, conformance, console, live, program
+from vmatools import console
 from vmatools.commands import compare, conform
+from vmatools.comparing import campaign, comparison, conformance, findings
+from vmatools.running import live, program
 from vmatools.systems.batch import Adapters
 from vmatools.traces import read_trace
 
@@ -130,6 +132,13 @@ class InComparison(unittest.TestCase):
         for text in (FORK, b"vmatrace 1\n0 fault 0x1000 r\n"):
             with mock.patch.object(self.sides, "by_serial", lambda _: "maps 7\n"):
                 self.assertEqual(self.sides.program_output(read_trace(text)), "maps 7\n")
+
+    def test_a_model_that_answers_a_fork_in_its_place_is_held_to_the_program(self) -> None:
+        self.sides.adapters = self.sides.live
+        examiner = campaign.Campaign(campaign.Settings([], ["few"], 1), self.sides, findings.Findings())
+        with mock.patch.object(self.sides, "by_serial", lambda _: "maps 7\n"):
+            with self.assertRaisesRegex(comparison.CannotRun, "the model of the tools answers otherwise"):
+                examiner.examined(campaign.Source(0, "", [], lambda: read_trace(FORK)))
 
     def test_a_smallest_trace_is_held_to_the_program(self) -> None:
         trace = read_trace(EMPTY)

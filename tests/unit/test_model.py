@@ -4,9 +4,10 @@ from __future__ import annotations
 import unittest
 from pathlib import Path
 
-from vmatools import coverage, loads, serial, traces
+from vmatools import traces
 from vmatools.model import Area, Space, area_at, areas_in, is_free, joins, replaced
-from vmatools.program import TOP
+from vmatools.profile import coverage, loads, serial
+from vmatools.running.program import TOP
 
 
 def area(lo: int, hi: int, prot: int = 3, number: int = 0, offset: int = 0) -> Area:

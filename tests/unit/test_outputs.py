@@ -5,7 +5,7 @@ import re
 import unittest
 
 from vmatools import outputs
-from vmatools.program import TOP
+from vmatools.running.program import TOP
 
 LOW, NEXT, HIGH = (f"{place:08x}-{place + 4096:08x} rw-p 00000000 00:00 0 " for place in (0x10000, 0x11000, 0x20000))
 JOINED = "00010000-00012000 rw-p 00000000 00:00 0 "

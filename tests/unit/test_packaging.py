@@ -3,15 +3,17 @@ from __future__ import annotations
 
 import argparse
 import tempfile
-import tomllib
 import unittest
 from pathlib import Path
 from unittest import mock
 
+import tomllib
+
 from dev.packaging import completion, manual
 from models.loading import module_of
-from vmatools import VERSION, cli, program, versions
-from vmatools.program import TOP
+from vmatools import VERSION, cli, versions
+from vmatools.running import program
+from vmatools.running.program import TOP
 
 
 class Pages(unittest.TestCase):

@@ -9,7 +9,8 @@ from typing import Optional
 
 TOP = Path(__file__).resolve().parents[2]
 sys.path.insert(0, str(TOP / "tools"))
-from vmatools import generator, shrinking, traces
+from vmatools import traces
+from vmatools.comparing import generator, shrinking
 
 Test = Callable[[traces.Trace], bool]
 
@@ -55,6 +56,15 @@ class Shrinking(unittest.TestCase):
         )
         self.assertEqual(len(lines), 1)
         self.assertLess(int(lines[0].split()[3]), 20_000)
+
+    def test_children_have_the_next_numbers(self) -> None:
+        text = b"vmatrace 1\n5 brk 0\n5 fork 9\n9 fault 0 r\n5 fork 7\n7 brk 0\n"
+
+        def differs(made: traces.Trace) -> bool:
+            child = next((line.arguments[0] for line in made.lines if line.word == "fork"), None)
+            return any(line.word == "fault" and line.thread == child for line in made.lines)
+
+        self.assertEqual(shrunk(traces.read_trace(text), differs), ["0 fork 1", "1 fault 0 r"])
 
     def test_every_step_is_a_trace(self) -> None:
         def is_trace(made: traces.Trace) -> bool:

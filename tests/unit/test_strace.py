@@ -11,12 +11,12 @@ from pathlib import Path
 
 from models.loading import needs
 from vmatools import traces
-from vmatools.console import Failure
 from vmatools.commands.lists import last_list
+from vmatools.console import Failure
+from vmatools.running.program import TOP
 from vmatools.strace import importing
 from vmatools.strace.areas import read_sections
 from vmatools.strace.log import Log
-from vmatools.program import TOP
 
 VMA = str(TOP / "tools/vma")
 LOGS = TOP / "tests/logs"

@@ -14,6 +14,7 @@ from unittest import mock
 from vmatools.commands.lists import last_list
 from vmatools.console import Failure
 from vmatools.model import Space as Model, answer
+from vmatools.running.program import TOP
 from vmatools.strace import importing, lists, watching
 from vmatools.strace.areas import Area, area_of, read_sections, top_of
 from vmatools.strace.files import Descriptors, follow_descriptor
@@ -21,7 +22,6 @@ from vmatools.strace.log import Log, split_arguments, unescaped
 from vmatools.strace.processes import Processes
 from vmatools.strace.writing import Choices, Trace
 from vmatools.traces import Line, read_trace
-from vmatools.program import TOP
 
 BEGIN = '7 execve("/bin/a", ["a"], 0x7ffd /* 2 vars */) = 0\n7 brk(NULL) = 0x555555579000\n'
 MAP = "mmap(NULL, 4096, PROT_READ, MAP_PRIVATE|MAP_ANONYMOUS, -1, 0)"

@@ -10,14 +10,15 @@ from pathlib import Path
 from unittest import mock
 
 import suite as check
-
 from models import cases, drawn, mutations
-from vmatools import conformance, coverage, model
-from vmatools.conformance import PART
+from vmatools import model
+from vmatools.comparing import conformance
+from vmatools.comparing.conformance import PART
 from vmatools.console import Failure
-from vmatools.serial import serial_output
+from vmatools.profile import coverage
+from vmatools.profile.serial import serial_output
+from vmatools.running.program import TOP
 from vmatools.traces import read_trace
-from vmatools.program import TOP
 
 TEXTS = {cases.where(path): path.read_text(encoding="utf-8") for path in conformance.SUITE.glob("*/*.trace")}
 TRACES = {name: read_trace(text.encode()) for name, text in TEXTS.items()}

@@ -11,8 +11,10 @@ from pathlib import Path
 from unittest import mock
 
 from models.loading import module_of
-from vmatools import console, generator, model, windows
+from vmatools import console, model
 from vmatools.commands import kernel
+from vmatools.comparing import generator, windows
+from vmatools.running.program import TOP
 from vmatools.systems import (
     batch,
     empty,
@@ -29,7 +31,6 @@ from vmatools.systems import (
 )
 from vmatools.systems.places import PAST_ALL, Refused, Window, check_window, finds_place, leaves
 from vmatools.traces import Trace, read_trace
-from vmatools.program import TOP
 
 MAP = "MAP_PRIVATE|MAP_ANONYMOUS"
 WINDOW = Window(0x10000, 0x2000000)
@@ -262,9 +263,11 @@ class Told(unittest.TestCase):
 
 
 class LinuxOf(unittest.TestCase):
-    def test_the_processor_of_qemu_has_no_protection_keys(self) -> None:
-        """An emulated program finds OSPKE clear, whatever the machine has."""
-        self.assertEqual(linux_of.kernel_of(known.system_of("qemu-x86_64")).settings.keys, 0)
+    def test_qemu_and_user_mode_linux_have_no_protection_keys(self) -> None:
+        """An emulated program finds OSPKE clear, whatever the machine has, and user-mode Linux can't use them."""
+        with mock.patch.object(measuring, "version_of", return_value="6.1.176"):
+            for name in ("qemu-x86_64", "uml"):
+                self.assertEqual(linux_of.kernel_of(known.system_of(name)).settings.keys, 0)
 
 
 class Searches(unittest.TestCase):

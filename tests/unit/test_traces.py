@@ -5,7 +5,9 @@ import io
 import random
 import unittest
 
-from vmatools import generator, loads, traces
+from vmatools import traces
+from vmatools.comparing import generator
+from vmatools.profile import loads
 
 HEAD = b"vmatrace 1\n"
 

@@ -8,6 +8,7 @@ from pathlib import Path
 TOP = Path(__file__).resolve().parents[2]
 sys.path[:0] = [str(TOP / "tools"), str(TOP / "tests")]
 from models import wrong
+from vmatools.comparing import generator
 from vmatools.traces import read_trace
 
 LEAST = 120
@@ -21,6 +22,12 @@ class WrongModels(unittest.TestCase):
         for one in models:
             with self.subTest(one.name):
                 self.assertTrue(wrong.differs(one.space, read_trace(known[one.name].encode())))
+
+    def test_a_lower_break_splits_a_file_in_traces_of_the_heap(self) -> None:
+        drawn = [generator.Generator("brk", f"1 {number}", 30).draw() for number in (30, 39, 84, 105)]
+        models = {one.name: one.space for one in wrong.shown()}
+        for name in ("brk loses object above", "brk loses offset above"):
+            self.assertTrue(any(wrong.differs(models[name], trace) for trace in drawn), name)
 
 
 if __name__ == "__main__":
