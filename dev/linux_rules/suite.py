@@ -1,16 +1,16 @@
 """The cases of suite/ with what kernels were recorded to answer: NAME.linux, where it isn't what NAME.out has."""
 from __future__ import annotations
 
-import re
 from collections.abc import Iterator
 from pathlib import Path
 
+from vmatools.linux import recorded
 from vmatools.linux.kernel import Kernel, Settings, kernel_of
+from vmatools.linux.versions import text_of
 from vmatools.systems import empty
 from vmatools.systems.places import Refused
 from vmatools.traces import Trace, read_trace
 
-HEAD = re.compile(r"# ([a-z0-9-]+) of docs/KERNEL\.md; Linux ([0-9., and]+) answers?\n")
 # The kernels that were recorded, on machines with these settings.
 SMALL = Settings(memory=245_000)
 RUNNING = Settings(memory=6_170_807, huge="madvise")
@@ -20,13 +20,7 @@ LEFT_OUT = ("wide", "maps-text")
 
 def answers(path: Path) -> dict[str, str]:
     """What each version answered to a case, where that is not what the program gives."""
-    found: dict[str, str] = {}
-    if path.exists():
-        for part in path.read_text(encoding="utf-8").split("==\n"):
-            head = HEAD.match(part)
-            if head:
-                found.update(dict.fromkeys(re.findall(r"[0-9.]+", head[2]), part[head.end() :]))
-    return found
+    return {text_of(kernel.version): part.answer for part in recorded.read(path) for kernel in part.kernels}
 
 
 def is_had(trace: Trace) -> bool:

@@ -9,33 +9,27 @@ from __future__ import annotations
 
 import argparse
 import itertools
-import re
-from dataclasses import replace
-from pathlib import Path
 
 import linux_mutants
 from checking import TOP, fail, passed, skipped  # first: it sets where the tools are found
 
 from vmatools import oracles
 from vmatools.comparing import generator
-from vmatools.comparing.conformance import PART
 from vmatools.comparing.fitting import fitted
-from vmatools.linux import generators, vectors
+from vmatools.linux import generators, recorded, vectors
 from vmatools.linux.areas import NotModelled
 from vmatools.linux.held import Held, hold, kernel_answer, kernel_under
-from vmatools.linux.kernel import Kernel, Process, Settings, kernel_of
-from vmatools.linux.versions import table, version_of
+from vmatools.linux.kernel import Kernel
+from vmatools.linux.versions import table
 from vmatools.oracles import Oracle
-from vmatools.systems import empty, rows
+from vmatools.systems import rows
 from vmatools.systems.adapter import Adapter
-from vmatools.systems.known import GUEST, system_of
-from vmatools.systems.linux_of import GUEST_MEMORY
+from vmatools.systems.known import system_of
 from vmatools.systems.places import Refused
 from vmatools.traces import Trace, read_trace
 
 LINES = 30
 SHOWN = 3
-HEAD = re.compile(r"# ([a-z0-9-]+) of docs/KERNEL\.md; Linux ([0-9., and]+) answers?\n")
 OPERATIONS = 20_000
 PROCESS = "brk-none"  # the row whose answer is the process's own
 KINDS = [*generators.KINDS, *(name for name in generator.PROFILES if name != "wide")]
@@ -58,14 +52,13 @@ def all_vectors() -> Vectors:
 
 
 def all_rows() -> Vectors:
-    """The rows of docs/KERNEL.md, as Linux 6.18 answered them: those of files on a disk, and the others."""
-    kernel = machine_of("6.18.44")
-    on_disk = replace(kernel, settings=replace(kernel.settings, files="disk"))
-    found: dict[Kernel, list[tuple[Trace, vectors.Vector]]] = {kernel: [], on_disk: []}
-    for row in rows.read_rows()[1]:
+    """The rows of docs/KERNEL.md, as Linux 6.18 answered them."""
+    head, read = rows.read_rows()
+    found: dict[Kernel, list[tuple[Trace, vectors.Vector]]] = {}
+    for row in read:
         if row.name != PROCESS:
             pair = read_trace(row.trace.encode()), vectors.Vector(row.name, row.trace, row.there)
-            found[on_disk if row.name in rows.ON_DISK else kernel].append(pair)
+            found.setdefault(rows.kernel_for(row.name, rows.recorder(head)), []).append(pair)
     return list(found.items())
 
 
@@ -102,44 +95,17 @@ def check_mutants(found: Vectors) -> None:
 # The suite
 
 
-def machine_of(version: str) -> Kernel:
-    """The kernel that gave the suite's answers: in a machine, or the running one then."""
-    kernel = kernel_of(version)
-    if kernel.version == max(one for one in table() if one[:2] == (6, 18)):
-        return replace(kernel, settings=Settings(memory=6_170_807, huge="madvise"), process=Process(areas=4))
-    return replace(kernel, settings=Settings(memory=GUEST_MEMORY), process=Process(4, GUEST.most_areas))
-
-
-def recorded(path: Path) -> dict[str, str]:
-    """What versions answered to a case, as its file has them: an empty text where any answer is right."""
-    answers: dict[str, str] = {}
-    for part in path.read_text(encoding="utf-8").split(PART) if path.exists() else []:
-        head = HEAD.match(part)
-        if head:
-            answers.update(dict.fromkeys(re.findall(r"[0-9.]+[0-9]", head[2]), part[head.end() :]))
-    return answers
-
-
 def check_suite() -> None:
-    cases = [(path, read_trace(path.read_bytes())) for path in sorted((TOP / "suite").glob("*/*.trace"))]
-    versions = {name for path, _ in cases for name in recorded(path.with_suffix(".linux"))}
-    for version in sorted(versions, key=version_of):
-        if version_of(version) not in table():
-            continue
-        kernel, held = machine_of(version), Held()
-        for path, trace in cases:
-            answer = recorded(path.with_suffix(".linux")).get(version)
-            if answer and can_run(trace, kernel):
-                hold(held, kernel, str(path.relative_to(TOP)), trace, answer)
-        told(f"{kernel.name}, answers of the suite", held)
-
-
-def can_run(trace: Trace, kernel: Kernel) -> bool:
-    try:
-        empty.check_empty(trace, empty.Kernel(kernel.settings.min, kernel.process.most_areas, False))
-    except Refused:
-        return False
-    return trace.version == 1
+    """The model with the version and the settings of each kernel that was recorded."""
+    helds: dict[str, Held] = {}
+    for path in sorted((TOP / "suite").glob("*/*.linux")):
+        name, trace = f"{path.parent.name}/{path.stem}", read_trace(path.with_suffix(".trace").read_bytes())
+        for part in recorded.read(path):
+            for kernel in part.kernels if part.answer else ():
+                if kernel.version in table():
+                    hold(helds.setdefault(kernel.words(), Held()), kernel, name, trace, part.answer)
+    for words, held in helds.items():
+        told(f"{words}, answers of the suite", held)
 
 
 # The running kernel

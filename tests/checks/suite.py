@@ -17,6 +17,8 @@ from checking import TOP, fail, passed
 from models import cases, mutations
 from vmatools import traces, words
 from vmatools.comparing import conformance
+from vmatools.linux import recorded
+from vmatools.linux.versions import WrongOracle
 from vmatools.profile import coverage
 
 LEAST = 2  # cases that each row decides
@@ -56,14 +58,20 @@ def check_alike(seeds: int) -> Iterator[str]:
 
 
 def check_linux(suite: Path = conformance.SUITE) -> Iterator[str]:
-    """Answers of Linux with no version, with a row that docs/KERNEL.md doesn't have, or that are the program's."""
+    """Answers of Linux with no version and settings, with a row that docs/KERNEL.md doesn't have, or that are the program's."""
     told = set(re.findall(r"[a-z]+(?:-[a-z]+)+", (TOP / "docs/KERNEL.md").read_text(encoding="utf-8")))
     for path in sorted(suite.glob("*/*.linux")):
-        text = path.read_text(encoding="utf-8")
-        rows, answers = cases.rows_of(text), cases.parts_of(text)
+        try:
+            parts = recorded.read(path)
+        except WrongOracle as wrong:
+            yield str(wrong)
+            continue
+        rows, versions = {part.row for part in parts}, [kernel.version for part in parts for kernel in part.kernels]
         if len(rows) != 1 or not rows <= told:
             yield f"{path}: each part has to name one row of docs/KERNEL.md, and has {', '.join(sorted(rows))}"
-        elif set(answers) == {path.with_suffix(".out").read_text(encoding="utf-8")}:
+        elif len(set(versions)) < len(versions) or recorded.written(parts) != path.read_text(encoding="utf-8"):
+            yield f"{path}: is not as dev/suite-case writes it, each version once and the newest first"
+        elif {part.answer for part in parts} == {path.with_suffix(".out").read_text(encoding="utf-8")}:
             yield f"{path}: no version answers otherwise than the program"
 
 

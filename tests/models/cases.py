@@ -1,8 +1,7 @@
 """Cases of the suite: what is wrong with their traces, and what has to be beside a trace.
 
 Beside NAME.trace is NAME.out, what `serial` gives for it. In the group `threads`, NAME.legal has each legal output. Where
-Linux answers otherwise, NAME.linux has a part for each answer, with a line `==` between two. The first line of a part names
-the row of docs/KERNEL.md and the versions that answered so.
+Linux answers otherwise, NAME.linux has what kernels answered.
 """
 from __future__ import annotations
 
@@ -11,8 +10,8 @@ from collections.abc import Iterator, Mapping
 from pathlib import Path
 
 from vmatools import model, traces
-from vmatools.comparing.conformance import PART
 from vmatools.console import Failure
+from vmatools.linux.recorded import PART
 from vmatools.profile import serial
 from vmatools.running import program
 
@@ -23,7 +22,6 @@ WITH_THREADS = "threads"  # the group
 SENTENCE = re.compile(
     r"# (?!(?:And|Also|It|Its|Neither is|Nor|Not|One that|Or|So|Such|The same|There|They)\b)(?:[A-Z]|m[a-z]+ ).*: .*\."
 )
-HEAD = re.compile(r"# ([a-z-]+) of docs/KERNEL\.md; Linux ([0-9., and]+) answers?\n")
 
 
 def where(path: Path) -> str:
@@ -86,42 +84,3 @@ def beside(program_path: str, path: Path) -> dict[Path, str]:
     if path.parent.name == WITH_THREADS:
         made[path.with_suffix(".legal")] = PART.join(legal_outputs(trace))
     return made
-
-
-# What Linux answers otherwise
-
-
-def rows_of(text: str) -> set[str]:
-    """The rows that the parts of a file name, none where a part has no first line."""
-    heads = [HEAD.match(part) for part in text.split(PART)]
-    return {head[1] if head else "none" for head in heads}
-
-
-def parts_of(text: str) -> dict[str, list[str]]:
-    """The answers of a file, each with the versions that gave it."""
-    parts: dict[str, list[str]] = {}
-    for part in text.split(PART) if text else []:
-        head = HEAD.match(part)
-        if head:
-            parts.setdefault(part[head.end() :], []).extend(re.findall("[0-9.]+", head[2]))
-    return parts
-
-
-def with_answer(text: str, row: str, version: str, output: str) -> str:
-    """A file with what a version answered, in the place of what it did before; the newest version is first."""
-    parts = {answer: [one for one in versions if one != version] for answer, versions in parts_of(text).items()}
-    parts.setdefault(output, []).append(version)
-    kept = [(sorted(versions, key=numbers), answer) for answer, versions in parts.items() if versions]
-    kept.sort(key=lambda part: numbers(part[0][-1]), reverse=True)
-    return PART.join(f"# {row} of docs/KERNEL.md; Linux {listed(versions)}\n{answer}" for versions, answer in kept)
-
-
-def numbers(version: str) -> list[int]:
-    return [int(number) for number in version.split(".")]
-
-
-def listed(versions: list[str]) -> str:
-    """Versions in words, with the verb."""
-    if len(versions) == 1:
-        return f"{versions[0]} answers"
-    return f"{', '.join(versions[:-1])} and {versions[-1]} answer"

@@ -15,13 +15,14 @@ from dataclasses import replace
 from pathlib import Path
 from unittest import mock
 
-from models import cases
 from vmatools.commands import conform
 from vmatools.comparing import conformance
 from vmatools.comparing.conformance import Case, Verdict
 from vmatools.console import Failure
+from vmatools.linux.kernel import kernel_of
 from vmatools.oracles import oracle_of
 from vmatools.running.program import TOP, Ran
+from vmatools.traces import read_trace
 
 TRACE = "vmatrace 1\n# It maps a page: mmap(2).\n0 mmap 0 4096 PROT_READ MAP_PRIVATE|MAP_ANONYMOUS -1 0\n"
 CASE = Case("mmap", "page", "It maps a page: mmap(2).", TRACE, ("a\nb\n",))
@@ -64,12 +65,19 @@ class Cases(unittest.TestCase):
         (self.top / "mmap/page.legal").write_text("a\nb\n==\nb\na\n")
         self.assertEqual(conformance.read_suite(self.top)[0].right, ("a\nb\n", "b\na\n"))
 
-    def test_with_threads_what_linux_was_seen_to_answer_is_right_for_linux(self) -> None:
+    def test_what_a_kernel_was_recorded_to_answer_is_right_for_it(self) -> None:
+        """And for no other version, and for no other settings."""
         (self.top / "mmap/page.legal").write_text("a\nb\n==\nb\na\n")
-        (self.top / "mmap/page.linux").write_text("# a-row of docs/KERNEL.md; Linux 6.18.44 answers\nc\n")
+        (self.top / "mmap/page.linux").write_text(f"# a-row of docs/KERNEL.md\n# {kernel_of('6.18').words()}\nc\n")
         self.assertEqual(conformance.read_suite(self.top)[0].right, ("a\nb\n", "b\na\n"))
-        as_linux = conformance.read_suite(self.top, oracle=oracle_of("linux-6.18"))
-        self.assertEqual(as_linux[0].right, ("c\n",))
+        for name, is_recorded in (("linux-6.18", True), ("linux-6.12", False), ("linux-6.18,keys=0", False)):
+            right = "c\n" if is_recorded else oracle_of(name).output(read_trace(TRACE.encode()))
+            self.assertEqual(conformance.read_suite(self.top, oracle=oracle_of(name))[0].right, (right,))
+
+    def test_a_record_that_is_none_is_named(self) -> None:
+        (self.top / "mmap/page.linux").write_text("c\n")
+        with self.assertRaisesRegex(Failure, "page.linux: part 1 begins with no `# ROW of docs/KERNEL.md`"):
+            conformance.read_suite(self.top, oracle=oracle_of("linux-6.18"))
 
 
 class Judging(unittest.TestCase):
@@ -210,18 +218,3 @@ class PageTable(unittest.TestCase):
                     [sys.executable, str(TOP / "examples/page-table")], input=trace, capture_output=True, text=True, timeout=60
                 )
                 self.assertTrue(done.stdout.startswith("L2 t0 v1 = -1 ENOMEM\nL3 t0 v2 = -1 ENOMEM\n"), done.stdout)
-
-
-class Versions(unittest.TestCase):
-    """What versions of Linux answer."""
-
-    def test_a_part_for_each_answer(self) -> None:
-        one = cases.with_answer("", "brk-limit", "6.18.44", "a\n")
-        self.assertEqual(one, "# brk-limit of docs/KERNEL.md; Linux 6.18.44 answers\na\n")
-        two = cases.with_answer(cases.with_answer(one, "brk-limit", "6.1.192", "b\n"), "brk-limit", "6.12.117", "a\n")
-        first, second = two.split(conformance.PART)
-        self.assertEqual(first, "# brk-limit of docs/KERNEL.md; Linux 6.12.117 and 6.18.44 answer\na\n")
-        self.assertEqual(second, "# brk-limit of docs/KERNEL.md; Linux 6.1.192 answers\nb\n")
-        three = cases.with_answer(two, "brk-limit", "6.1.192", "a\n")
-        self.assertEqual(three, "# brk-limit of docs/KERNEL.md; Linux 6.1.192, 6.12.117 and 6.18.44 answer\na\n")
-        self.assertEqual(cases.with_answer(three, "brk-limit", "6.12.117", "a\n"), three)

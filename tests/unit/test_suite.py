@@ -13,8 +13,10 @@ import suite as check
 from models import cases, drawn, mutations
 from vmatools import model
 from vmatools.comparing import conformance
-from vmatools.comparing.conformance import PART
 from vmatools.console import Failure
+from vmatools.linux import recorded
+from vmatools.linux.kernel import Settings, kernel_of
+from vmatools.linux.recorded import PART
 from vmatools.profile import coverage
 from vmatools.profile.serial import serial_output
 from vmatools.running.program import TOP
@@ -83,6 +85,9 @@ class Beside(unittest.TestCase):
 
 
 class AsLinux(unittest.TestCase):
+    OLD, NEW = (f"# {kernel_of(version).words()}\n" for version in ("6.1", "6.18"))
+    HEAD = "# brk-limit of docs/KERNEL.md\n"
+
     def check(self, text: str) -> list[str]:
         with tempfile.TemporaryDirectory() as name:
             folder = Path(name) / "brk"
@@ -92,11 +97,33 @@ class AsLinux(unittest.TestCase):
             return [line.removeprefix(f"{folder}/") for line in check.check_linux(Path(name))]
 
     def test_a_row_that_is_not_there_and_an_answer_that_is_the_programs(self) -> None:
-        head = "# {} of docs/KERNEL.md; Linux 6.1 answers\n"
-        self.assertEqual(self.check(head.format("brk-limit") + "b\n"), [])
-        self.assertEqual(self.check(head.format("brk-limit") + "a\n"), ["a.linux: no version answers otherwise than the program"])
-        for text, rows in ((head.format("brk-other") + "b\n", "brk-other"), ("b\n", "none")):
-            self.assertEqual(self.check(text), [f"a.linux: each part has to name one row of docs/KERNEL.md, and has {rows}"])
+        self.assertEqual(self.check(self.HEAD + self.OLD + "b\n"), [])
+        told = "a.linux: no version answers otherwise than the program"
+        self.assertEqual(self.check(self.HEAD + self.OLD + "a\n"), [told])
+        told = "a.linux: each part has to name one row of docs/KERNEL.md, and has brk-other"
+        self.assertEqual(self.check(self.HEAD.replace("limit", "other") + self.OLD + "b\n"), [told])
+
+    def test_an_answer_without_version_and_settings(self) -> None:
+        told = "a.linux: part 1 begins with no `# ROW of docs/KERNEL.md` and `# linux-VERSION SETTINGS`"
+        for text in ("b\n", self.HEAD + "b\n", self.OLD + "b\n"):
+            self.assertEqual(self.check(text), [told])
+        for words, told in (("linux-6.1", "has not all settings"), ("linux-6.1.192 key=0", "key=0 is no setting")):
+            self.assertIn(told, self.check(f"{self.HEAD}# {words}\nb\n")[0])
+
+    def test_each_version_stands_once_and_the_newest_first(self) -> None:
+        told = ["a.linux: is not as dev/suite-case writes it, each version once and the newest first"]
+        new, old = self.HEAD + self.NEW + "b\n", self.HEAD + self.OLD + "c\n"
+        self.assertEqual(self.check(new + PART + old), [])
+        self.assertEqual(self.check(old + PART + new), told)
+        self.assertEqual(self.check(new + PART + self.HEAD + self.OLD + self.NEW + "c\n"), told)
+
+    def test_a_version_that_is_asked_again_gives_one_answer(self) -> None:
+        old, new, other = kernel_of("6.1"), kernel_of("6.18"), kernel_of("6.18", Settings(keys=0))
+        parts = recorded.with_answer(recorded.with_answer([], "a", old, "1\n"), "a", new, "1\n")
+        self.assertEqual(parts, [recorded.Part("a", (old, new), "1\n")])
+        parts = recorded.with_answer(parts, "a", other, "2\n")
+        self.assertEqual(recorded.parts_of(recorded.written(parts)), parts[::-1])
+        self.assertEqual([recorded.answer_of(parts, one) for one in (old, other, new)], ["1\n", "2\n", None])
 
 
 class Missing(unittest.TestCase):

@@ -12,7 +12,10 @@ from itertools import zip_longest
 from pathlib import Path
 
 from ..console import Failure
+from ..linux import recorded
 from ..linux.areas import NotModelled
+from ..linux.recorded import PART
+from ..linux.versions import WrongOracle
 from ..oracles import PROFILE, Oracle
 from ..outputs import Difference, first_difference
 from ..running.program import TOP, Ran
@@ -20,8 +23,6 @@ from ..traces import read_trace
 from . import junit, ranking
 
 SUITE = TOP / "suite"
-# What parts the legal outputs of a case with threads, and the outputs of versions of Linux.
-PART = "==\n"
 # How an adapter ends that can't make its system run a case, as one that asks for addresses that the system has itself.
 CANNOT_RUN = "ends with status 4"
 # How an adapter of many traces answers whose system can't be run at all, as where a package is missing.
@@ -95,19 +96,25 @@ def sentence(trace: str) -> str:
     return comments[0] if comments else ""
 
 
+def right_as_linux(path: Path, trace: str, oracle: Oracle) -> tuple[str, ...]:
+    """What is right for Linux: what such a kernel was recorded to answer, else what is computed."""
+    try:
+        seen = recorded.answer_of(recorded.read(path.with_suffix(".linux")), oracle.kernel) if oracle.kernel else None
+    except WrongOracle as wrong:
+        raise Failure(str(wrong)) from None
+    return (seen or oracle.output(read_trace(trace.encode())),)
+
+
 def read_case(path: Path, oracle: Oracle = PROFILE) -> Case:
-    """The case of a trace of the suite. What Linux answers is computed; but what threads may give is the profile's, where
-    Linux wasn't seen to answer otherwise."""
+    """The case of a trace of the suite. What threads may give is the profile's, where Linux wasn't seen to answer otherwise."""
     trace, legal, linux = path.read_text(encoding="utf-8"), path.with_suffix(".legal"), path.with_suffix(".linux")
     right: tuple[str, ...]
     gap = ""
-    if legal.exists() and oracle.kernel and linux.exists():
-        right = tuple(part.partition("\n")[2] for part in linux.read_text(encoding="utf-8").split(PART))
-    elif legal.exists():
+    if legal.exists() and not (oracle.kernel and linux.exists()):
         right = tuple(legal.read_text(encoding="utf-8").split(PART))
     elif oracle.kernel:
         try:
-            right = (oracle.output(read_trace(trace.encode())),)
+            right = right_as_linux(path, trace, oracle)
         except NotModelled as why:
             right, gap = (), str(why)
     else:

@@ -9,6 +9,7 @@ from pathlib import Path
 from .. import console
 from ..linux import kernel as linux
 from ..linux.areas import NotModelled
+from ..linux.recorded import kernel_in
 from ..oracles import Oracle
 from ..running import program
 from ..traces import BadLine, read_trace
@@ -49,6 +50,16 @@ def read_rows(path: Path = ROWS) -> tuple[str, list[Row]]:
     return parts[0], rows
 
 
+def recorder(head: str) -> linux.Kernel:
+    """The kernel that answered the rows, and its settings, as stands above them."""
+    return kernel_in(next(line.removeprefix("# ") for line in head.splitlines() if line.startswith("# linux-")))
+
+
+def kernel_for(name: str, kernel: linux.Kernel) -> linux.Kernel:
+    """The kernel with the files that a row has."""
+    return replace(kernel, settings=replace(kernel.settings, files="disk")) if name in ON_DISK else kernel
+
+
 def row_of(path: str) -> Row:
     """A trace of somebody else's, as a row whose answers nobody knows."""
     return Row(path, console.whole_text(path), "", "")
@@ -79,13 +90,11 @@ class Model(Answering):
 
     def __init__(self, kernel: linux.Kernel) -> None:
         self.otherwise = f"{kernel.name} answers otherwise"
-        self.in_memory = Oracle(kernel)
-        self.on_disk = Oracle(replace(kernel, settings=replace(kernel.settings, files="disk")))
+        self.kernel = kernel
 
     def output(self, row: Row) -> str | None:
-        oracle = self.on_disk if row.name in ON_DISK else self.in_memory
         try:
-            return oracle.output(read_trace(row.trace.encode(errors="surrogateescape")))
+            return Oracle(kernel_for(row.name, self.kernel)).output(read_trace(row.trace.encode(errors="surrogateescape")))
         except BadLine as bad:
             raise console.Failure(f"{row.name}: trace {bad}") from None
         except NotModelled:
