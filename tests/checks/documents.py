@@ -4,7 +4,8 @@ Each name in `code` that can only be one of the sources is one. Each path in `co
 somewhere, headings too. Each block of code below `<!-- from FILE -->` has lines of this file, in their order, where `..`
 stands for any, and each block of Rust has such a line. Each crate of crates.txt is in one group of docs/ARCHITECTURE.md.
 The tables of calls, numbers and flags are those of the sources.
-dev/make-reference makes its pages, and finds no item without a comment. docs/HEADLINE.md is what dev/make-headline makes.
+dev/make-reference makes its pages, and finds no item without a comment. docs/HEADLINE.md is what dev/make-headline makes, and
+the tables of docs/KERNEL.md are those of dev/kernel-table.
 The manual page passes `mandoc -T lint`, where that is installed.
 """
 from __future__ import annotations
@@ -22,6 +23,8 @@ import model_tables
 from checking import TOP, Options, fail, passed, skipped
 from dev.reference import headline
 from dev.reference.pages import faults, pages
+from vmatools.console import Failure
+from vmatools.linux import by_version
 
 MANUALS = [Path("docs/diltzekun.1"), Path("docs/diltzekun-live.1")]
 # Pages whose names in `code` are those of the sources.
@@ -209,6 +212,16 @@ def check_headline() -> Iterator[str]:
         yield f"{headline.PAGE} is not what the sources say now: run dev/make-headline"
 
 
+def check_kernel() -> Iterator[str]:
+    """Tables of docs/KERNEL.md that are not what the models answer to its rows, and rows that are in no table."""
+    page = Path("docs/KERNEL.md")
+    try:
+        if by_version.put(read(page)) != read(page):
+            yield f"{page} has other tables than the models make now: run dev/kernel-table"
+    except Failure as failure:
+        yield str(failure)
+
+
 def check_manual() -> Iterator[str]:
     """What mandoc warns of in the manual pages."""
     if not shutil.which("mandoc"):
@@ -220,7 +233,7 @@ def check_manual() -> Iterator[str]:
 def check(_options: Options) -> None:
     os.chdir(TOP)
     of_pages = (check_names, check_links, check_paths, check_excerpts, check_crates, check_tables, check_manual)
-    wrong = [line for each in (*of_pages, check_reference, check_headline) for line in each()]
+    wrong = [line for each in (*of_pages, check_reference, check_headline, check_kernel) for line in each()]
     if wrong:
         fail("the documents", "\n".join(wrong))
     passed("every name, path and link leads somewhere, and each item has a comment")

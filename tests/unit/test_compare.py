@@ -100,6 +100,7 @@ ALSO: dict[str, str | None] = {
     "brk-below": "brk-name",
     "seal-fixed": "seal-split",
     "fork-written": "border",
+    **dict.fromkeys(["border-moved-back", "aligned-shared", "aligned-file-in-memory", "mremap-old-zero-private"]),  # alike
 }
 
 

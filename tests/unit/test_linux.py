@@ -17,6 +17,7 @@ sys.path.insert(0, str(TOP / "tools"))
 from vmatools import oracles, traces
 from vmatools.commands import conform
 from vmatools.comparing import answers as answers_of_models
+from vmatools.console import Failure
 from vmatools.linux import by_version, generators, selecting, vectors, versions
 from vmatools.linux.areas import NotModelled
 from vmatools.linux.kernel import Kernel, Settings, kernel_of, running_version
@@ -180,16 +181,36 @@ class NotGuessed(unittest.TestCase):
 
 
 class Pages(unittest.TestCase):
-    def test_the_tables_of_the_page_are_made(self) -> None:
-        page = (TOP / "docs/KERNEL.md").read_text(encoding="utf-8")
-        self.assertEqual(by_version.put(page), page, "dev/kernel-table makes them again")
+    def cells(self, *lines: str, case: str = "") -> list[str]:
+        return by_version.Told("a-row", case, trace_of(*lines), kernel_of("6.18")).cells()
 
-    def test_the_last_call_that_is_answered_otherwise_is_shown(self) -> None:
-        trace = "vmatrace 1\n0 munmap 0 0\n0 mmap 0 4096 PROT_READ MAP_SHARED|MAP_PRIVATE -1 0\n"
-        here, there = ("L2 t0 v1 = 0\nL3 t0 v2 = -1 EINVAL\nmaps 0\n", "L2 t0 v1 = -1 EPERM\nL3 t0 v2 = 0x8000\nmaps 1\n")
-        row = rows.Row("error-of-two", trace, here, there)
-        call = "`mmap 0 4096 PROT_READ MAP_SHARED\\|MAP_PRIVATE -1 0`"
-        self.assertEqual(by_version.error_cells(row), ["error-of-two", call, "EINVAL", "0x8000"])
+    def test_a_row_says_what_the_profile_and_each_version_answer(self) -> None:
+        mapped = f"0 mmap 0x100000 4096 {WRITE}"
+        moved = "0 mremap 0x100000 4096 140737488355328 MREMAP_MAYMOVE"
+        self.assertEqual(self.cells(mapped, moved), ["a-row", f"`{moved[2:]}`", "ENOMEM", "EINVAL", *["ENOMEM"] * 3, *"==="])
+        sealed = self.cells(mapped, "0 mseal 0x100000 4096 0", case="a seal")
+        self.assertEqual(sealed[1:5], ["a seal", "0; 100-101 rw-p", "0; 100-101 rw-p", "-"])
+
+    def test_a_call_is_one_cell(self) -> None:
+        self.assertIn("PROT_READ\\|PROT_WRITE", self.cells(f"0 mmap 0x8000 4096 {WRITE}")[1])
+
+    def test_vmas_are_shown_where_only_lists_tell(self) -> None:
+        lines = [f"0 mmap 0x100000 4096 {WRITE}", f"0 mmap 0x101000 4096 PROT_READ|PROT_WRITE|PROT_EXEC {ANONYMOUS}"]
+        lines += ["0 fault 0x101000 w", "0 mprotect 0x101000 4096 PROT_READ|PROT_WRITE"]
+        apart = "100-101 rw-p, 101-102 rw-p"
+        self.assertEqual(self.cells(*lines)[2:], ["100-102 rw-p", "100-102 rw-p", apart, apart, *"===="])
+
+    def test_lists_that_are_read_tell_where_the_last_does_not(self) -> None:
+        grown = f"0 mmap 0x100000 4096 {WRITE}".replace(" -1", "|MAP_GROWSDOWN -1")
+        told = self.cells(grown, "0 fault 0xfe000 w", "0 maps", "0 munmap 0xfe000 12288")[2:4]
+        self.assertEqual(told, ["SEGV_MAPERR; 100-101 rw-p", "served fe-101 rw-p; fe-101 rw-p"])
+
+    def test_a_table_is_made_between_its_marks(self) -> None:
+        page = (TOP / "docs/KERNEL.md").read_text(encoding="utf-8")
+        self.assertEqual(by_version.put(page.replace("| EFAULT |", "| EPERM |")), page)
+        for words, told in (("fork grow", "not one table for each of the rows grow-far, .*"), ("forks", "no rows forks")):
+            with self.assertRaisesRegex(Failure, f"{told}$"):
+                by_version.put(page.replace("rows fork,", f"rows {words},"))
 
     def test_every_file_of_vectors_is_of_its_version(self) -> None:
         for path in (TOP / "suite/vectors").glob("*/*.gz"):
@@ -208,11 +229,24 @@ class Pages(unittest.TestCase):
             names = ["hard-1", "directed-a", "directed-b"]
             self.assertEqual(list(vectors.recorded(Path(folder))), names)
             tool = module_of(TOP / "dev/linux-versions")
-            words = argparse.Namespace(images=["native"], vectors=1, record=Path(folder))
-            with mock.patch.object(tool, "words", lambda: words), mock.patch.object(tool, "hold_image") as hold:
-                self.assertEqual(tool.main(), 0)
-            self.assertEqual([name for name, _ in hold.call_args[0][2]], names)
+            for add, asked in (([], names), ([Path(folder, "c.trace")], ["directed-c"])):
+                Path(folder, "c.trace").write_text("vmatrace 1\n0 brk 0\n")
+                words = argparse.Namespace(images=["native"], vectors=1, record=Path(folder), add=add)
+                with mock.patch.object(tool, "words", lambda words=words: words), mock.patch.object(tool, "hold_image") as hold:
+                    self.assertEqual(tool.main(), 0)
+                self.assertEqual([name for name, _ in hold.call_args[0][2]], asked)
             self.assertEqual(len(tool.asked(Path(folder), 3)), len(names) + 3)
+
+    def test_what_is_added_stands_beside_what_the_same_machine_answered(self) -> None:
+        tool, kernel = module_of(TOP / "dev/linux-versions"), kernel_of("6.18")
+        told = (("a", "1\n"), ("b", "2\n"), ("a", "3\n"))
+        one, other, new = (vectors.Vector(name, "vmatrace 1\n", answer) for name, answer in told)
+        with tempfile.TemporaryDirectory() as folder:
+            path = Path(folder, vectors.FILE)
+            path.write_bytes(vectors.written(kernel, [one, other]))
+            self.assertEqual(tool.kept(path, kernel, [new]), [other])
+            with self.assertRaisesRegex(Failure, "and this is linux-6.18.44 .*keys=0.*: record all again"):
+                tool.kept(path, kernel_of("6.18", Settings(keys=0)), [new])
 
     def test_a_file_that_is_none_is_named(self) -> None:
         for data in (b"", b"text", gzip.compress(b"# linux-5\n")):

@@ -6,6 +6,8 @@ shown: the trace, and the lines in which the program (-) and the running kernel 
 standard input, is a trace of yours, which is shown in the same way. A row that this machine can't run, such as one with
 another lowest address, is named and passed over.
 
+The directed traces of suite/vectors, which docs/KERNEL.md has too, run where they are named.
+
 With --as Linux of a version answers beside the program, by its model, and no kernel is run; with `--as profile` the program
 answers alone.
 
@@ -60,13 +62,13 @@ def run_all(chosen: list[rows.Row], path: str, kernel: rows.Answering | None) ->
 
 def run(options: argparse.Namespace) -> int:
     path = program.find(options.program, options.verbose)
-    _, known = rows.read_rows()
+    known = rows.read_rows()[1] + (rows.directed_rows() if options.names else [])
     by_name = {row.name: row for row in known}
     own = {name: rows.row_of(name) for name in options.names if name not in by_name and is_trace(name)}
     unknown = [name for name in options.names if name not in by_name | own]
     if unknown:
         near = difflib.get_close_matches(unknown[0], [row.name for row in known], 1)
-        hint = f"did you mean {near[0]}?" if near else "examples/kernel-rows.txt has them"
+        hint = f"did you mean {near[0]}?" if near else "docs/KERNEL.md has them"
         raise console.Failure(f"no row has the name {console.printable(unknown[0])}; {hint}")
     kernel = beside(options)
     if own and kernel is None:

@@ -7,10 +7,11 @@ from dataclasses import dataclass, replace
 from pathlib import Path
 
 from .. import console
-from ..linux import kernel as linux
+from ..linux import kernel as linux, vectors
 from ..linux.areas import NotModelled
 from ..linux.recorded import kernel_in
-from ..oracles import Oracle
+from ..linux.versions import text_of
+from ..oracles import PROFILE, Oracle
 from ..running import program
 from ..traces import BadLine, read_trace
 from .adapter import Adapter
@@ -18,6 +19,7 @@ from .known import system_of
 from .places import Refused
 
 ROWS = program.TOP / "examples/kernel-rows.txt"
+VECTORS = program.TOP / "suite/vectors"
 CANNOT = 4  # the status of a trace that asks for what the machine cannot do
 OWN_BREAK = re.compile(r"= 0x7fffff[01][0-9a-f]{5}$", re.MULTILINE)  # among the addresses of the process that makes the calls
 SOME_BREAK = "= BREAK"
@@ -28,26 +30,39 @@ ON_DISK = ("aligned-file", "aligned-file-moved")  # the row of files on a disk: 
 
 @dataclass(frozen=True)
 class Row:
-    """A row: its name, its trace, and what both sides answer."""
+    """A row: its name, its trace, what both sides answer, and what case it is, where its call doesn't say it."""
 
     name: str
     trace: str
     here: str
     there: str
+    case: str = ""
 
     def text(self) -> str:
-        return f"== {self.name}\n{self.trace}{HERE}\n{self.here}{THERE}\n{self.there}"
+        case = f": {self.case}" if self.case else ""
+        return f"== {self.name}{case}\n{self.trace}{HERE}\n{self.here}{THERE}\n{self.there}"
 
 
 def read_rows(path: Path = ROWS) -> tuple[str, list[Row]]:
     """What stands above the rows in their file, and the rows."""
-    parts = re.split(r"^== (\S+)\n", path.read_text(encoding="utf-8"), flags=re.MULTILINE)
+    head, *parts = re.split(r"^== ([^:\n]+)(?:: (.+))?\n", path.read_text(encoding="utf-8"), flags=re.MULTILINE)
     rows = []
-    for name, text in zip(parts[1::2], parts[2::2]):
+    for name, case, text in zip(parts[::3], parts[1::3], parts[2::3]):
         trace, outputs = text.split(HERE + "\n")
         here, there = outputs.split(THERE + "\n")
-        rows.append(Row(name, trace, here, there.rstrip("\n") + "\n"))
-    return parts[0], rows
+        rows.append(Row(name, trace, here, there.rstrip("\n") + "\n", case or ""))
+    return head, rows
+
+
+def directed_rows() -> list[Row]:
+    """The directed traces, with what the profile answers, and what Linux 6.18 was recorded to answer."""
+    version = recorder(read_rows()[0]).version
+    found = vectors.read(VECTORS / text_of(version) / vectors.FILE)[1]
+    return [
+        Row(one.name.removeprefix(vectors.DIRECTED), one.trace, PROFILE.output(read_trace(one.trace.encode())), one.answer)
+        for one in found
+        if vectors.is_directed(one.name)
+    ]
 
 
 def recorder(head: str) -> linux.Kernel:
