@@ -4,13 +4,16 @@ from __future__ import annotations
 import sys
 import unittest
 from collections.abc import Callable
+from concurrent.futures import ThreadPoolExecutor
 from pathlib import Path
 from typing import Optional
 
 TOP = Path(__file__).resolve().parents[2]
-sys.path.insert(0, str(TOP / "tools"))
+sys.path[:0] = [str(TOP / "tools"), str(TOP / "tests")]
+from models import mutants, wrong
 from vmatools import traces
-from vmatools.comparing import generator, shrinking
+from vmatools.comparing import comparison, findings, generator, shrinking, smaller
+from vmatools.model import Space
 
 Test = Callable[[traces.Trace], bool]
 
@@ -72,6 +75,94 @@ class Shrinking(unittest.TestCase):
             return has("mremap")(made)
 
         self.assertEqual(len(shrunk(drawn("mremap"), is_trace)), 1)
+
+
+ANON = "PROT_READ MAP_PRIVATE|MAP_ANONYMOUS|MAP_FIXED -1 0"
+NOISE = """vmatrace 1
+limit areas 900
+top 0x7fffe0000000
+file 3 rw 9000 8:1 17 /srv/data/with-a-long-name
+"""
+
+
+def smallest(model: type[Space], text: str) -> tuple[str, list[str]]:
+    """The first kind in which a wrong model differs on a trace, and all lines of the smallest trace of that kind."""
+    sides = comparison.InProcess(model, comparison.Rules())
+    (found,) = comparison.examine(sides, traces.read_trace(text.encode()), 1).findings
+    name = "/".join(comparison.kind_of(found.difference))
+    with ThreadPoolExecutor(1) as pool:
+        search = smaller.Smaller(sides, pool, 1, 600, 600, 600, lambda: False)
+        small = search.finding(findings.Finding(name, found.difference, found.trace.text(), "", ""))
+    assert small
+    return name, small.trace.splitlines()
+
+
+class Readable(unittest.TestCase):
+    """An odd trace in, and the one that a person reads out, of the same kind."""
+
+    def test_of_wrong_models(self) -> None:
+        by_rule = {one.name: one.space for one in wrong.shown()}
+        cases: list[tuple[type[Space], str, str, list[str]]] = [
+            (
+                mutants.MunmapPastEnd,
+                NOISE + "7 munmap 0x7fffffff3000 61441\n",
+                "munmap/-1 EINVAL/-1 ENOMEM",
+                ["0 munmap 0x800000000000 4096"],
+            ),
+            (
+                by_rule["munmap loses shared below"],
+                NOISE + "2 mmap 0x7f31415000 20480 PROT_READ MAP_SHARED|MAP_ANONYMOUS|MAP_FIXED_NOREPLACE -1 0\n"
+                "5 munmap 0x7f31417000 3996\n",
+                "munmap/list: permissions/list: other permissions",
+                [f"0 mmap 0x10000 8192 {ANON}".replace("PRIVATE", "SHARED"), "0 munmap 0x11000 4096"],
+            ),
+            (
+                by_rule["mseal of an odd length: It unmaps the page behind its range"],
+                NOISE + f"3 mmap 0x7abcd000 40960 {ANON}\n3 mseal 0x7abce000 12345 0\n",
+                "mseal/list: mapped/list: not mapped",
+                [f"0 mmap 0x10000 8192 {ANON}", "0 mseal 0x10000 1 0"],
+            ),
+            (
+                by_rule["fork loses heap"],
+                NOISE + "heap 0x7abcd000\n9 brk 0x7abcf456\n9 fork 41\n41 fault 0x7abce000 w\n",
+                "fork/list: name/list: other name",
+                ["heap 0x10000", "0 brk 0x11000", "0 fork 1"],
+            ),
+        ]
+        for model, text, kind, lines in cases:
+            with self.subTest(kind):
+                self.assertEqual(smallest(model, text), (kind, ["vmatrace 1", *lines]))
+
+    def test_no_more_threads_than_it_needs(self) -> None:
+        text = b"vmatrace 1\n5 munmap 0x10000 4096\n9 brk 0 after=2\n9 mprotect 0x10000 4096 PROT_READ after=2\n7 brk 0 after=3\n"
+
+        def of_two(made: traces.Trace) -> bool:
+            threads = {line.word: line.thread for line in made.lines}
+            return {"munmap", "mprotect"} <= set(threads) and threads["munmap"] != threads["mprotect"]
+
+        def with_a_note(made: traces.Trace) -> bool:
+            return of_two(made) and any(line.after for line in made.lines)
+
+        wanted = ["0 munmap 0 0", "1 mprotect 0 0 PROT_READ"]
+        self.assertEqual(shrunk(traces.read_trace(text), of_two), wanted)
+        self.assertEqual(shrunk(traces.read_trace(text), with_a_note), [wanted[0], f"{wanted[1]} after=2"])
+
+    def test_lines_of_one_thread_wait_for_none_of_its_own(self) -> None:
+        text = b"vmatrace 1\n5 brk 0\n9 brk 0 after=2\n5 fork 3\n3 brk 0\n"
+        made = shrinking.with_threads(traces.read_trace(text), {5: 0, 9: 0})
+        self.assertEqual(made.text().splitlines()[1:], ["0 brk 0", "0 brk 0", "0 fork 1", "1 brk 0"])
+
+    def test_a_place_in_a_high_window_is_round(self) -> None:
+        text = f"vmatrace 1\n0 mmap 0x12345677000 20480 {ANON}\n0 munmap 0x12345679000 4096\n".encode()
+
+        def differs(made: traces.Trace) -> bool:
+            if [line.word for line in made.lines] != ["mmap", "munmap"]:
+                return False
+            mapped, cut = (line.arguments[:2] for line in made.lines)
+            return 0x100000000 < mapped[0] < cut[0] < cut[0] + cut[1] < mapped[0] + mapped[1]
+
+        lines = shrunk(traces.read_trace(text), differs)
+        self.assertEqual([line.split()[2:4] for line in lines], [["0x12000000000", "12288"], ["0x12000001000", "4096"]])
 
 
 if __name__ == "__main__":

@@ -9,10 +9,13 @@ from ..traces import FORMS, MAP, MREMAP, PAGE, PROT, TABLES, USER_PAGES, File, L
 
 BASE = 0x10  # the page at which the lowest range of a small trace begins
 HINT_COST = 1000  # a hint tells a reader less than a fixed place, or than none
+ODD_COST = 256  # a number of bytes tells a reader less than one of pages
 ROUNDS = 8
 CLUSTER = 0x10000  # points that are no more pages apart belong together
 LAST_PAGE = USER_PAGES[2] + 16  # numbers above it are no places
 PROTS = [PROT["PROT_READ"], PROT["PROT_READ"] | PROT["PROT_WRITE"], 0, PROT["PROT_WRITE"], PROT["PROT_EXEC"]]
+SIZES = ("LEN", "OLDLEN", "NEWLEN", "OFF")
+ROUND = (0x1000000, 0x100000, 0x10000, 0x1000, 0x100, 0x10)  # pages, of which a place that is easy to read is a multiple
 FIXED, NOREPLACE, ANONYMOUS = MAP["MAP_FIXED"], MAP["MAP_FIXED_NOREPLACE"], MAP["MAP_ANONYMOUS"]
 
 
@@ -20,27 +23,32 @@ FIXED, NOREPLACE, ANONYMOUS = MAP["MAP_FIXED"], MAP["MAP_FIXED_NOREPLACE"], MAP[
 
 
 def number_cost(value: int) -> int:
-    """Less for a number with fewer digits other than trailing zeros, in hexadecimal, and then for a smaller one."""
-    return 64 * len(hex(value)[2:].rstrip("0")) + value.bit_length()
+    """Less for a number with fewer digits other than trailing zeros, in hexadecimal, then with fewer other than zero, and then
+    for a smaller one."""
+    digits = hex(value)[2:].rstrip("0")
+    return 64 * len(digits) + 4 * (len(digits) - digits.count("0")) + value.bit_length()
 
 
 def is_hint(line: Line) -> bool:
     return line.word == "mmap" and bool(line.arguments[0] > 0 and not line.arguments[3] & (FIXED | NOREPLACE))
 
 
-def cost(trace: Trace) -> tuple[int, int, int, int]:
-    """By this a trace is smaller than another one: by its lines, then its numbers, then its flags."""
-    numbers, flags = 0, 0
+def cost(trace: Trace) -> tuple[int, int, int, int, int]:
+    """By this a trace is smaller than another one: by its lines, then its numbers, as they read, then its flags, then its
+    numbers as such."""
+    numbers, flags, values = 0, 0, 0
     for line in trace.lines:
         for kind, value in zip(FORMS[line.word], line.arguments):
             if kind == "PROT":
                 flags += PROTS.index(value) if value in PROTS else len(PROTS) + value
             elif kind in TABLES:
-                flags += 8 * bin(value).count("1") + (kind == "MAP" and value & MAP["MAP_SHARED"])
+                flags += 8 * bin(value).count("1")
+                flags += bin(value & (MAP["MAP_SHARED"] | NOREPLACE)).count("1") if kind == "MAP" else 0
             elif kind == "ACCESS":
                 flags += "rwx".index(value)
             else:
-                numbers += number_cost(abs(value))
+                values += value
+                numbers += number_cost(abs(value)) + (ODD_COST if kind in SIZES and value % PAGE else 0)
         numbers += line.thread + (HINT_COST if is_hint(line) else 0) + (HINT_COST if line.after is not None else 0)
     settings = sum(number_cost(value) for value in trace.settings.values())
     files = sum(
@@ -52,7 +60,7 @@ def cost(trace: Trace) -> tuple[int, int, int, int]:
         + len(file.name + file.mode)
         for file in trace.files
     )
-    return len(trace.lines), len(trace.settings) + len(trace.files), numbers + settings + files, flags
+    return len(trace.lines), len(trace.settings) + len(trace.files), numbers + settings + files, flags, values
 
 
 # Places: the pages at which ranges begin and end
@@ -135,7 +143,7 @@ def moves_of(trace: Trace) -> Iterator[dict[int, int]]:
     for cluster in clusters_of(points):
         for base in (BASE, cluster[0]):
             yield narrowed(cluster, base)
-        for base in (BASE, BASE * 0x10, cluster[0] & -0x1000, cluster[0] & -0x100, cluster[0] & -0x10):
+        for base in (BASE, BASE * 0x10, *(cluster[0] & -pages for pages in ROUND)):
             if base:
                 yield {point: point - cluster[0] + base for point in cluster}
         for place in range(1, len(cluster)):
@@ -164,7 +172,8 @@ def plain_values(kind: str, value: Any, is_timed: bool) -> Sequence[Any]:
     if value <= LAST_PAGE * PAGE:  # a place or a length, which is moved with others: here it is only rounded
         powers = [1 << value.bit_length() - 1, 1 << value.bit_length()] if value > 1 << 32 else []
         smaller = [PAGE * pages for pages in (2, 3, 4, 8, 16)] + ([] if is_timed else halves(value))
-        return [0, PAGE, *powers] + ([(value + PAGE - 1) & -PAGE, value & -PAGE] if value % PAGE else []) + smaller
+        odd = [(value + PAGE - 1) & -PAGE, value & -PAGE, 1, (value & -PAGE) + 1] if value % PAGE else []
+        return [0, PAGE, *powers, *odd, *smaller]
     sizes = (1 << value.bit_length() - 1, 1 << 32, PAGE)
     rounded = [*(value & -size for size in sizes), *((value + size - 1) & -size for size in sizes)]
     return [0, 1, PAGE, BASE * PAGE, *([] if is_timed else halves(value)), *rounded]
@@ -263,8 +272,9 @@ class Shrinker:
         for _ in range(ROUNDS):
             steps = (
                 self.without_settings,
-                self.one_thread,
+                self.fewer_threads,
                 self.without_notes,
+                self.closer,
                 self.rebuilt,
                 self.plain,
                 self.same_ranges,
@@ -336,26 +346,29 @@ class Shrinker:
 
         return self.repeated(candidates)
 
-    def one_thread(self) -> bool:
-        """One thread for all lines that are no child's, and the next numbers for children."""
-        children = [line.arguments[0] for line in self.trace.lines if line.word == "fork"]
-        numbers = {child: place for place, child in enumerate(children, 1)}
-        lines = [
-            line._replace(
-                thread=numbers.get(line.thread, 0),
-                arguments=[numbers[line.arguments[0]]] if line.word == "fork" else line.arguments,
-            )
-            for line in self.trace.lines
-        ]
-        return self.takes([self.trace.with_lines(lines)])
-
-    def without_notes(self) -> bool:
-        """Lines that name no line."""
+    def fewer_threads(self) -> bool:
+        """The lines of two threads as those of one, of all threads first; and the next numbers for threads and children."""
 
         def candidates(trace: Trace) -> Iterator[Trace]:
-            for place, line in enumerate(trace.lines):
-                if line.after is not None:
-                    yield trace.with_lines([*trace.lines[:place], line._replace(after=None), *trace.lines[place + 1 :]])
+            threads = threads_of(trace)
+            yield with_threads(trace, dict.fromkeys(threads, 0))
+            to = {thread: place for place, thread in enumerate(threads)}
+            for place in range(1, len(threads)):
+                for other in range(place):
+                    yield with_threads(trace, {thread: joined(to[thread], place, other) for thread in threads})
+            yield with_threads(trace, to)
+
+        return self.repeated(candidates)
+
+    def without_notes(self) -> bool:
+        """Lines that name no line: all of them first."""
+
+        def candidates(trace: Trace) -> Iterator[Trace]:
+            places = [place for place, line in enumerate(trace.lines) if line.after is not None]
+            for some in [places, *([place] for place in places)]:
+                yield trace.with_lines(
+                    line._replace(after=None) if place in some else line for place, line in enumerate(trace.lines)
+                )
 
         return self.repeated(candidates)
 
@@ -419,3 +432,29 @@ def with_settings(trace: Trace, **settings: Optional[int]) -> Trace:
     other = trace.with_lines(trace.lines)
     other.settings = {name: value for name, value in (trace.settings | settings).items() if value is not None}
     return other
+
+
+def threads_of(trace: Trace) -> list[int]:
+    """The threads that are no children, in the order in which they come."""
+    children = {line.arguments[0] for line in trace.lines if line.word == "fork"}
+    return list(dict.fromkeys(line.thread for line in trace.lines if line.thread not in children))
+
+
+def joined(number: int, place: int, other: int) -> int:
+    """The number of a thread where the one at a place has become another one, below it."""
+    return other if number == place else number - (number > place)
+
+
+def with_threads(trace: Trace, to: dict[int, int]) -> Trace:
+    """The trace with these numbers for its threads, and the next ones for children. No line waits for one of its own thread."""
+    children = [line.arguments[0] for line in trace.lines if line.word == "fork"]
+    numbers = to | {child: place for place, child in enumerate(children, max(to.values(), default=0) + 1)}
+    thread_of = {line.number: numbers[line.thread] for line in trace.lines}
+    return trace.with_lines(
+        line._replace(
+            thread=numbers[line.thread],
+            arguments=[numbers[line.arguments[0]]] if line.word == "fork" else line.arguments,
+            after=None if line.after is None or thread_of.get(line.after) == numbers[line.thread] else line.after,
+        )
+        for line in trace.lines
+    )
