@@ -114,12 +114,12 @@ def wrong_report(name: str, status: int, text: str, pattern: str) -> str | None:
 
 def check_itself(program: str, runs: int) -> None:
     began = time.monotonic()
-    status, text = compared(["--runs", str(runs), "--program", program, "--", program, "serial"])
+    status, text = compared(["--no-suite", "--runs", str(runs), "--program", program, "--", program, "serial"])
     if status or not text.endswith(f"\n{runs} traces, 0 differ\n"):
         fail(f"the program differs from itself: status {status}\n{text[-4000:]}")
     told(f"the program against itself, {runs} traces", began)
     began = time.monotonic()
-    status, text = compared(["--suite", "--runs", "1", "--program", program, "--", "right"], OfModel)
+    status, text = compared(["--runs", "1", "--program", program, "--", "right"], OfModel)
     if status or not re.search(r"^[67]\d\d traces, 0 differ\n\Z", text, re.MULTILINE):
         fail(f"the model differs from the program on the suite: status {status}\n{text[-4000:]}")
     told("the cases of the suite", began)
@@ -139,7 +139,7 @@ def check_model(program: str, runs: int) -> None:
 def check_models() -> None:
     """The options as they stand find each wrong model that has a name, and most of those by rule."""
     began = time.monotonic()
-    drawn = [source.draw() for source in sources(compare.settings_of(options_of(["--runs", str(RUNS)])))]
+    drawn = [source.draw() for source in sources(compare.settings_of(options_of(["--no-suite", "--runs", str(RUNS)])))]
     for name, model in mutants.MUTANTS.items():
         sides = comparison.InProcess(model, comparison.Rules())
         if not any(comparison.examine(sides, trace, 1).findings for trace in drawn):
@@ -329,9 +329,9 @@ def check_statuses(program: str) -> None:
         (["--profile", "none", "--", "true"], 2),
         (["--", "no-such-command"], 2),
         (["--help"], 0),
-        (["--runs", "3", "--", "true"], 1),
-        (["--runs", "3", "--", "false"], 1),
-        (["--runs", "3", "--", "echo", "L2"], 1),
+        (["--no-suite", "--runs", "3", "--", "true"], 1),
+        (["--no-suite", "--runs", "3", "--", "false"], 1),
+        (["--no-suite", "--runs", "3", "--", "echo", "L2"], 1),
     ]
     vma, measure = os.path.join(TOOLS, "vma"), os.path.join(DEV, "measure")
     jobs: list[Job] = [(vma, ["compare", "--program", program, *words], wanted, "") for words, wanted in runs]

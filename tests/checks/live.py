@@ -338,7 +338,7 @@ def check_suite(live: str) -> None:
 
 def check_comparison(program: str, live: str) -> None:
     """Sessions stand in for the program where traces don't fork, and one that answers otherwise is found out."""
-    words = ["compare", "--program", program, "--runs", "60", "--live"]
+    words = ["compare", "--program", program, "--no-suite", "--runs", "60", "--live"]
     done = subprocess.run([*VMA, *words, live, "--", program, "serial"], capture_output=True)
     # It says how far it is, where that takes long.
     done.stderr = re.sub(rb"vma compare: [0-9]+ of [0-9]+ traces, [0-9]+ differ in [0-9]+ kinds\n", b"", done.stderr)

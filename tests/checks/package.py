@@ -76,7 +76,7 @@ def check_tools(package: Package, programs: list[str]) -> None:
     cases = len(list((TOP / "suite").glob("*/*.trace")))
     package.has(f"{'all':12}{cases:6}{cases:10}", "vma", "conform", "--", "diltzekun", "serial")
     passed(f"conform from the package, on {cases} cases")
-    package.has("10 traces, 0 differ", "vma", "compare", "--runs", "10", "--", "diltzekun", "serial")
+    package.has("10 traces, 0 differ", "vma", "compare", "--no-suite", "--runs", "10", "--", "diltzekun", "serial")
     package.has("(cause 6, Arity", "vma", "explain", str(bad), status=1)
     package.has("<svg", "vma", "draw", trace)
     package.run("vma", "new-adapter", "python", "mine")

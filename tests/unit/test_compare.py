@@ -290,6 +290,7 @@ class Ranking(unittest.TestCase):
             ("fault", "SIGSEGV SEGV_MAPERR", "SIGSEGV SEGV_ACCERR", "reply"),
             ("mmap", "-1 EEXIST", "an address", "reply"),
             ("mmap", "an address", "another address", "place"),
+            ("mremap", "an address", "a place outside", "place"),
         ]
         for operation, here, there, wanted in pairs:
             self.assertEqual(ranking.name_of(Difference(operation, here, there, 2, [], [])), wanted)
@@ -362,13 +363,43 @@ class Runs(unittest.TestCase):
         ranked = lines[lines.index("what counts most first:") + 1]
         self.assertRegex(ranked, f"^  reply +{title} [(][0-9]+ traces?[)]$")
 
-    def test_a_run_ends_where_ten_kinds_are_open(self) -> None:
-        for goes_on in (False, True):
-            told = findings.Findings()
-            run = self.campaign(told, 3, sides=Worse(campaign.MOST_OPEN + 5), goes_on=goes_on, folder=self.traces(20))
+    def test_all_kinds_are_found_and_ten_made_small(self) -> None:
+        """Of the others there is a line, and the command that shows them."""
+        for makes_all in (False, True):
+            told, stream = findings.Findings(), io.StringIO()
+            sides = Worse(findings.MOST_SHOWN + 5)
+            run = self.campaign(told, 3, sides=sides, makes_all=makes_all, folder=self.traces(20), report=reports.Report(stream))
             run.run()
-            self.assertEqual((len(told.in_order()) > campaign.MOST_OPEN, told.is_full), (goes_on, not goes_on))
-            self.assertEqual(any("`--all` goes on" in line for line in told.told_lines()), not goes_on)
+            run.report.end(told, False, None)  # type: ignore[union-attr]
+            self.assertEqual((len(told.kinds) > findings.MOST_SHOWN, told.traces), (True, 20))
+            small = len(told.kinds) if makes_all else findings.MOST_SHOWN
+            self.assertEqual(sum(kind.is_shrunk for kind in told.kinds.values()), small)
+            lines = stream.getvalue().splitlines()
+            self.assertEqual(lines.count("   the smallest trace:"), small)
+            ranked = lines[lines.index("what counts most first:") + 1 :]
+            self.assertEqual(sum("vma compare --lines 12 --traces" in line for line in ranked), len(told.kinds) - small)
+
+    def test_what_counts_most_is_made_small_first(self) -> None:
+        told = findings.Findings()
+        run = self.campaign(told, 1)
+        for name in ("mmap/an address/another address", "munmap/0/-1 EINVAL", "fault/0/hung"):
+            operation, here, there = name.split("/")
+            one = findings.Finding(name, Difference(operation, here, there, 2, [], []), TWO.decode(), "a", "a")
+            told.kinds[name] = findings.Kind(one)
+            run.see(name, told.kinds[name])
+        run.make_small()
+        self.assertEqual(list(run.shrinking.values()), ["fault/0/hung"])
+        run.give_up()
+
+    def test_cases_that_were_not_come_to_are_told(self) -> None:
+        told = findings.Findings()
+        suite = sorted(self.traces(5).glob("*.trace"))
+        self.campaign(told, 2, suite=suite).run()
+        self.assertEqual((told.traces, told.cases_left), (7, 0))
+        self.assertFalse(list(told.told_lines()))
+        self.campaign(told, 2, suite=suite, for_seconds=0.0).run()
+        self.assertEqual(told.cases_left, 5)
+        self.assertIn("5 cases of the suite not run: the run ended before", list(told.told_lines()))
 
     def test_all_of_a_run_is_within_its_time(self) -> None:
         """The traces, what is made small, and the report: each run of the system takes two seconds."""
@@ -423,19 +454,25 @@ class Runs(unittest.TestCase):
         return compare.settings_of(options)
 
     def test_the_cases_of_the_suite_come_first(self) -> None:
-        wanted = {"": True, "--runs 5": False, "--profile few": False, "--only 3": False, "--threads 2": False}
-        wanted |= {"--for 5": True, "--runs 5 --suite": True, "--no-suite": False}
+        wanted = {"": True, "--runs 5": True, "--profile few": False, "--only 3": False, "--threads 2": False}
+        wanted |= {"--for 5": True, "--profile few --suite": True, "--no-suite": False}
         for words, has_suite in wanted.items():
             settings = self.settings(*words.split())
             self.assertEqual(bool(settings.suite), has_suite, words)
             self.assertIsInstance(settings.suite, list)
             self.assertFalse(settings.has_coverage)
-        settings = self.settings("--suite", "--runs", "2")
+        settings = self.settings("--runs", "2")
         names = [source.name for source in campaign.sources(settings)]
         self.assertEqual(len(names), len(settings.suite) + 2)
         self.assertIn("suite/brk/", names[0])
         self.assertIn("trace 1 of seed 1", names[-1])
         self.assertFalse([name for name in names if "/wide/" in name or Path(name).with_suffix(".legal").exists()])
+
+    def test_a_run_has_two_minutes_where_no_word_ends_it(self) -> None:
+        wanted = {"": 120, "--profile few": 120, "--threads 2": 120, "--for 5": 5, "--runs 5": None, "--only 3": None}
+        for words, seconds in wanted.items():
+            self.assertEqual(self.settings(*words.split()).for_seconds, seconds, words)
+        self.assertEqual(self.settings("--runs", "5", "--for", "7").for_seconds, 7)
 
     def test_a_trace_with_comments_is_blamed_on_its_line(self) -> None:
         folder, told = self.traces(0), findings.Findings()

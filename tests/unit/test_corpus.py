@@ -26,9 +26,13 @@ def seeds(count: int) -> list[Trace]:
     return [read_trace(path.read_bytes()).numbered() for path in conformance.cases_in_order(False)[:count]]
 
 
+def named(count: int) -> list[tuple[str, Trace]]:
+    return [(str(place), trace) for place, trace in enumerate(seeds(count))]
+
+
 def grown(seed: int, count: int) -> list[str]:
     """So many traces of a corpus, as texts."""
-    made = corpus.Corpus(seed, 12, generator.IN_TURN, seeds(30))
+    made = corpus.Corpus(seed, 12, generator.IN_TURN, named(30))
     return [made.next()[0].text() for _ in range(count)]
 
 
@@ -72,7 +76,7 @@ class Kept(unittest.TestCase):
         self.assertEqual(entry.space(9).areas[0].hi, 0x13)
 
     def test_what_the_last_tenth_reaches_is_told(self) -> None:
-        made = corpus.Corpus(1, 12, ["few"], seeds(30))
+        made = corpus.Corpus(1, 12, ["few"], named(30))
         self.assertEqual(made.late, 0)
         known = []
         for _ in range(50):
@@ -80,13 +84,28 @@ class Kept(unittest.TestCase):
             known.append(len(made.known))
         self.assertEqual(made.late, known[-1] - known[44])
 
+    def test_what_is_reached_is_of_what_ran(self) -> None:
+        """Of the seeds that were not run nothing is counted."""
+        made = corpus.Corpus(1, 12, ["few"], named(30))
+        for _ in range(50):
+            made.next()
+        new = len(made.known) - made.before
+        ran: set[pairs.Pair] = set()
+        for trace in seeds(7):
+            corpus.last_fresh(trace, ran)
+        self.assertEqual(made.reached_of([]), (new, 0, made.late))
+        self.assertEqual(made.reached_of([str(place) for place in range(7)]), (new + len(ran), len(ran), made.late))
+        self.assertEqual(made.reached_of([str(place) for place in range(30)]), (len(made.known), made.before, made.late))
+        self.assertIn("beyond those of the suite, which was not run", str(findings.Pairs(5, 0, 1)))
+        self.assertIn("5 pairs reached, 3 of them by the suite", str(findings.Pairs(5, 3, 1)))
+
 
 class Grown(unittest.TestCase):
     def test_traces_depend_on_the_seed_alone(self) -> None:
         first = grown(1, 60)
         self.assertEqual(first, grown(1, 60))
         self.assertNotEqual(first, grown(2, 60))
-        made = corpus.Corpus(1, 12, generator.IN_TURN, seeds(30))
+        made = corpus.Corpus(1, 12, generator.IN_TURN, named(30))
         self.assertEqual(made.trace(41)[0].text(), first[41])
 
     def test_every_change_is_a_trace(self) -> None:

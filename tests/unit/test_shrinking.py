@@ -14,6 +14,7 @@ from models import mutants, wrong
 from vmatools import traces
 from vmatools.comparing import comparison, findings, generator, shrinking, smaller
 from vmatools.model import Space
+from vmatools.outputs import kind_of
 
 Test = Callable[[traces.Trace], bool]
 
@@ -89,7 +90,7 @@ def smallest(model: type[Space], text: str) -> tuple[str, list[str]]:
     """The first kind in which a wrong model differs on a trace, and all lines of the smallest trace of that kind."""
     sides = comparison.InProcess(model, comparison.Rules())
     (found,) = comparison.examine(sides, traces.read_trace(text.encode()), 1).findings
-    name = "/".join(comparison.kind_of(found.difference))
+    name = "/".join(kind_of(found.difference))
     with ThreadPoolExecutor(1) as pool:
         search = smaller.Smaller(sides, pool, 1, 600, 600, 600, lambda: False)
         small = search.finding(findings.Finding(name, found.difference, found.trace.text(), "", ""))
@@ -128,6 +129,13 @@ class Readable(unittest.TestCase):
                 "fork/list: name/list: other name",
                 ["heap 0x10000", "0 brk 0x11000", "0 fork 1"],
             ),
+            (
+                by_rule["mseal loses object within"],
+                NOISE + "file 9 w 12345 8:3 77 /a\nfile 7 r 9000 8:1 23 /srv/data/of-a-page-and-more\n"
+                "0 mmap 0x7abcd000 12345 PROT_READ MAP_PRIVATE|MAP_FIXED 7 8192\n0 mseal 0x7abcf000 1 0\n",
+                "mseal/list: device/list: other device",
+                ["file 3 r 0 8:1 23 /f", "0 mmap 0x10000 4096 PROT_READ MAP_PRIVATE|MAP_FIXED 3 0", "0 mseal 0x10000 4096 0"],
+            ),
         ]
         for model, text, kind, lines in cases:
             with self.subTest(kind):
@@ -159,7 +167,7 @@ class Readable(unittest.TestCase):
             if [line.word for line in made.lines] != ["mmap", "munmap"]:
                 return False
             mapped, cut = (line.arguments[:2] for line in made.lines)
-            return 0x100000000 < mapped[0] < cut[0] < cut[0] + cut[1] < mapped[0] + mapped[1]
+            return bool(0x100000000 < mapped[0] < cut[0] < cut[0] + cut[1] < mapped[0] + mapped[1])
 
         lines = shrunk(traces.read_trace(text), differs)
         self.assertEqual([line.split()[2:4] for line in lines], [["0x12000000000", "12288"], ["0x12000001000", "4096"]])

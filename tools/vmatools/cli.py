@@ -47,7 +47,7 @@ GROUPS = {
         Command("steps", "steps examples/reader-inside.steps", "modes"),
     ),
     "Compare a system with the program": (
-        Command("compare", "compare --runs 40 -- examples/page-table"),
+        Command("compare", "compare -- examples/page-table"),
         Command("new-adapter", "new-adapter python my-adapter", "new_adapter"),
         Command("emit", "emit --runs 100 traces"),
         Command("conform", "conform -- examples/page-table"),

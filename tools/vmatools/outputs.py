@@ -16,7 +16,7 @@ AREA = re.compile(
 RESULT = re.compile(
     r"0|0x[0-9a-f]+|-1 E[A-Z0-9]+|SIG[A-Z]+ [A-Z_]+|signal [0-9]+ code -?[0-9]+|"
     r"served( [0-9a-f]+-[0-9a-f]+ [rwxsp-]{4} page [0-9]+)?|child [0-9]+ areas [0-9]+|maps [0-9]+|"
-    r"hung|killed by signal [0-9]+|ended with status [0-9]+"
+    r"hung|killed by signal [0-9]+|ended with status [0-9]+|a place outside"
 )
 FACTS = ["permissions", "offset", "device", "inode", "name"]  # of a page in a list
 

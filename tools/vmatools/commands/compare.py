@@ -7,7 +7,8 @@ Two differences are of one kind if the same operation has the same pair of answe
 way. There are kinds for a COMMAND that ends by a signal or with a status other than 0, doesn't end within --seconds, or
 writes more than 64 MiB, and for an output with `a line of no known form`, one that ends early, and one that goes on. When a
 difference is found, its line is taken out and the rest of the trace runs again, so all differences of a trace are found. The
-shortest trace of each kind is then made as small as it can be while it still differs in the same way.
+shortest trace of a kind is made as small as it can be while it still differs in the same way, of ten kinds at most: of each
+other one the report has the command that does so, and --all does so for all.
 
 What --ignore sets aside is counted. RULE is `list` (don't compare the lists at the end), `errors` (both sides
 refuse, with different errors), or a kind as it is printed, OPERATION/PROGRAM/YOURS, where `*` stands for anything. A
@@ -31,8 +32,8 @@ from typing import Optional
 
 from .. import console, oracles, traces
 from ..comparing import comparison, conformance, findings as found, generator, threaded
-from ..comparing.campaign import KIND_SECONDS, MOST_OPEN, Campaign, Settings
-from ..comparing.findings import Baseline, Findings, Journal
+from ..comparing.campaign import KIND_SECONDS, Campaign, Settings
+from ..comparing.findings import MOST_SHOWN, Baseline, Findings, Journal
 from ..comparing.keeping import Kept
 from ..comparing.reports import Report
 from ..oracles import PROFILE
@@ -80,9 +81,9 @@ def thread_count(text: str) -> int:
     return value
 
 
-def add_traces(parser: argparse.ArgumentParser) -> None:
+def add_traces(parser: argparse.ArgumentParser, default: str = "200") -> None:
     """The words that say which traces there are, for `emit` too."""
-    parser.add_argument("--runs", type=count, metavar="N", help="how many traces (200)")
+    parser.add_argument("--runs", type=count, metavar="N", help=f"how many random traces ({default})")
     parser.add_argument("--lines", type=count, default=30, metavar="N", help="operations of a trace (30)")
     parser.add_argument("--seed", type=int, default=1, metavar="S", help="the same seed gives the same traces (1)")
     parser.add_argument(
@@ -101,14 +102,14 @@ def add_traces(parser: argparse.ArgumentParser) -> None:
 
 def add_arguments(parser: argparse.ArgumentParser) -> None:
     group = parser.add_argument_group("which traces")
-    add_traces(group)  # type: ignore[arg-type]
+    add_traces(group, "as many as there is time for")  # type: ignore[arg-type]
     parser.epilog = group.epilog  # type: ignore[attr-defined]
     group.add_argument(
         "--for",
         type=time_limit,
         dest="for_seconds",
         metavar="SECONDS",
-        help="take so long for all of it, without --runs for any number of traces",
+        help=f"take so long for all of it ({beside.FOR_SECONDS:g}, if no other word says when it ends)",
     )
     group.add_argument("--only", type=numbers_of, default=[], metavar="K[,K..]", help="only these traces of the seed")
     group.add_argument(
@@ -118,7 +119,7 @@ def add_arguments(parser: argparse.ArgumentParser) -> None:
     group.add_argument(
         "--suite",
         action=argparse.BooleanOptionalAction,
-        help="run the cases of the suite first (if no other word says which traces)",
+        help="run the cases of the suite first (unless --profile, --threads, --only or --traces says which traces)",
     )
     aside = parser.add_argument_group("what is set aside")
     aside.add_argument(
@@ -159,7 +160,10 @@ def add_arguments(parser: argparse.ArgumentParser) -> None:
         "from, what an earlier run has kept",
     )
     report.add_argument(
-        "--all", action="store_true", dest="goes_on", help=f"go on where {MOST_OPEN} kinds of differences are open"
+        "--all",
+        action="store_true",
+        dest="makes_all",
+        help=f"shrink a trace of each kind of difference, not of the {MOST_SHOWN} that count most when a shrinker is free",
     )
     report.add_argument(
         "--coverage", action="store_true", help="which rows of the tables of docs/MODEL.md the traces reached"
@@ -201,11 +205,11 @@ def add_arguments(parser: argparse.ArgumentParser) -> None:
 
 def settings_of(options: argparse.Namespace) -> Settings:
     """What the words ask for."""
-    runs = options.runs or (None if options.for_seconds else 200)
+    for_seconds = beside.FOR_SECONDS if beside.has_no_end(options) else options.for_seconds
     settings = Settings(
         options.command,
         options.profile,
-        runs,
+        options.runs,
         options.lines,
         options.seed,
         options.jobs,
@@ -214,14 +218,14 @@ def settings_of(options: argparse.Namespace) -> Settings:
         options.seconds,
         options.shrink_seconds,
         options.most,
-        options.for_seconds,
+        for_seconds,
         options.kind_seconds,
-        options.goes_on,
+        options.makes_all,
         options.only,
         options.traces,
         has_coverage=options.coverage,
     )
-    says_which = options.runs or options.only or options.traces or options.threads or options.profile != generator.IN_TURN
+    says_which = options.only or options.traces or options.threads or options.profile != generator.IN_TURN
     settings.grows = not options.threads and options.profile == generator.IN_TURN
     if options.suite or options.suite is None and not says_which:
         settings.suite = conformance.cases_in_order("wide" in options.profile)

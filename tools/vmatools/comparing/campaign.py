@@ -24,11 +24,11 @@ from ..running import children
 from ..systems.capabilities import Capabilities
 from ..traces import BadLine, Trace, read_trace
 from ..words import repeated
-from . import conformance, generator
+from . import conformance, generator, ranking
 from .answers import answers_of
 from .comparison import Examined, Found, Sides, Stopped, examine, without_all
 from .corpus import Corpus
-from .findings import Finding, Findings, Journal, Kind, Pairs
+from .findings import MOST_SHOWN, Finding, Findings, Journal, Kind, Pairs
 from .fitting import fitted
 from .keeping import Kept
 from .reports import Report
@@ -36,7 +36,6 @@ from .smaller import Smaller
 from .windows import EmptyFit, Fit
 
 QUIET_SECONDS = 30  # a line says how far the run is, where nobody looks at a terminal
-MOST_OPEN = 10  # kinds of differences at which a run ends
 KIND_SECONDS = 10.0  # for making the trace of a kind small
 WORKER_SECONDS = 0.05  # for the traces that a worker takes at once, which are so many at most
 MOST_AT_ONCE = 32
@@ -59,7 +58,7 @@ class Settings:
     most: int = 12
     for_seconds: Optional[float] = None  # for all of the run
     kind_seconds: float = KIND_SECONDS
-    goes_on: bool = False  # whatever is open
+    makes_all: bool = False  # the trace of each kind small, and not of so many
     only: list[int] = field(default_factory=list)
     folder: Optional[Path] = None
     has_coverage: bool = False
@@ -102,11 +101,11 @@ class Told(NamedTuple):
 def corpus_of(settings: Settings, kept: Kept) -> Corpus:
     """What random traces are made of: the cases of the suite, and what was kept of earlier runs."""
 
-    def seeds() -> Iterator[Trace]:
+    def seeds() -> Iterator[tuple[str, Trace]]:
         for path in [*conformance.cases_in_order(False), *kept.seeds]:
             trace = kept_trace(0, path).draw()
             if settings.fit is None or settings.fit.keeps(trace):
-                yield trace
+                yield str(path), trace
 
     is_fitted = settings.oracle.kernel is not None
     return Corpus(settings.seed, settings.lines, settings.profiles, seeds(), is_fitted, kept.write_seed)
@@ -186,7 +185,11 @@ class Campaign:
         self.waiting: deque[Source] = deque()  # what a worker had no time for
         self.at_once = 1  # traces that a worker takes
         self.examining: dict[Future[list[Told]], list[Source]] = {}
+        self.open: list[str] = []  # kinds that may be made small
         self.shrinking: dict[Future[Optional[Finding]], str] = {}
+        self.made = 0  # kinds that are made small, or were
+        self.cases = {str(path) for path in settings.suite}  # those that were not come to
+        self.ran: set[str] = set()  # cases, and what was kept
         self.told: SimpleQueue[tuple[Source, Found]] = SimpleQueue()  # by the workers, at once
         self.found: dict[str, list[Finding]] = {}  # of each trace that runs, what it has shown until now
         self.stopped: Optional[str] = None  # the signal that ended the run
@@ -232,8 +235,9 @@ class Campaign:
         self.keep_lacks(self.settings.fit.lacks if isinstance(self.settings.fit, (Fit, EmptyFit)) else ())
         try:
             while not self.is_over:
+                self.make_small()
                 self.fill(rest)
-                if not self.shrinking and (self.findings.is_full or not self.examining):
+                if not self.shrinking and not self.examining:
                     break
                 work: list[Future[Any]] = [*self.examining, *self.shrinking]
                 wait(work, 0.1, FIRST_COMPLETED)
@@ -241,13 +245,14 @@ class Campaign:
                 self.tell()
         finally:
             self.give_up()
-            self.findings.pairs = Pairs(len(self.corpus.known), self.corpus.before, self.corpus.late)
+            self.findings.cases_left = len(self.cases)
+            self.findings.pairs = Pairs(*self.corpus.reached_of(self.ran))
             self.progress.clear()
 
     def fill(self, rest: Iterator[Source]) -> None:
-        """Has as many traces run as workers are free: what is made small comes first."""
-        most = self.settings.jobs // 2 if self.shrinking else self.settings.jobs + 1
-        while len(self.examining) < most and not self.findings.is_full:
+        """Has as many traces run as workers are free, of which what is made small has half."""
+        most = max(self.settings.jobs // 2, 1) if self.shrinking else self.settings.jobs + 1
+        while len(self.examining) < most:
             taken = [self.waiting.popleft() for _ in range(min(self.at_once, len(self.waiting)))]
             taken += itertools.islice(rest, self.at_once - len(taken))
             if not taken:
@@ -274,8 +279,7 @@ class Campaign:
             self.at_once = min(self.at_once * 2, MOST_AT_ONCE) if is_quick else max(len(told), 1)
             self.waiting += taken[len(told) :]
             for one in told:
-                if not self.findings.is_full or one.source.name in self.found:
-                    self.keep(*one)
+                self.keep(*one)
         for small in [small for small in self.shrinking if small.done()]:
             self.keep_small(self.shrinking.pop(small), small.result())
 
@@ -283,8 +287,6 @@ class Campaign:
         """Tells of what was found in traces that may still run, and of each kind that is new."""
         while not self.told.empty():
             source, one = self.told.get()
-            if self.findings.is_full:
-                continue
             finding = self.finding(source, one)
             self.found.setdefault(source.name, []).append(finding)
             known = self.findings.baseline.of(finding.name)
@@ -294,7 +296,7 @@ class Campaign:
                 self.kept.write_trace(finding)
             self.write(finding, "finding", number=None if source.is_kept else source.number, known=known and known.reason)
             if is_open:
-                self.open(finding.name, self.findings.kinds[finding.name])
+                self.see(finding.name, self.findings.kinds[finding.name])
 
     def give_up(self) -> None:
         """Ends what still runs. What it has shown until now counts."""
@@ -326,6 +328,9 @@ class Campaign:
         self.keep_lacks(told.lacks)
         if source.is_kept:
             self.findings.kept.pop(source.name)
+        if (source.is_kept or source.name in self.cases) and not told.left_out:
+            self.ran.add(source.name)
+        self.cases.discard(source.name)
         if told.left_out:
             self.findings.left_out[told.left_out] += 1
             return
@@ -352,13 +357,21 @@ class Campaign:
                 self.progress.clear()
                 self.report.lacks(operation)
 
-    def open(self, name: str, kind: Kind) -> None:
-        """A kind that is new: tells of it, and has it made small."""
+    def see(self, name: str, kind: Kind) -> None:
+        """A kind that is new: tells of it, and may have it made small."""
         if self.report:
             self.progress.clear()
             self.report.seen(name, kind)
-        self.shrinking[self.small.submit(self.made_small, kind.shortest)] = name
-        self.findings.is_full = not self.settings.goes_on and len(self.findings.in_order()) >= MOST_OPEN
+        self.open.append(name)
+
+    def make_small(self) -> None:
+        """Has one kind after the other made small, what counts most first, and so many at most."""
+        if self.open and not self.shrinking and (self.settings.makes_all or self.made < MOST_SHOWN):
+            kinds = self.findings.kinds
+            name = min(self.open, key=lambda name: ranking.rank_of(kinds[name].shortest.difference))
+            self.open.remove(name)
+            self.made += 1
+            self.shrinking[self.small.submit(self.made_small, kinds[name].shortest)] = name
 
     def write(self, finding: Finding, what: str, **more: Any) -> None:
         if self.journal:
@@ -373,8 +386,9 @@ class Campaign:
         """Says how far the run is."""
         findings, all_runs = self.findings, self.settings.runs
         of = f" of {all_runs + len(self.settings.suite)}" if all_runs and not self.settings.folder else ""
-        small = f", {len(self.shrinking)} are made small" if self.shrinking else ""
-        text = f"{findings.traces}{of} traces, {findings.differing} differ in {len(findings.kinds)} kinds{small}"
+        limit = self.settings.for_seconds
+        left = f", {max(self.begin + limit - time.monotonic(), 0):.0f} s to go" if limit else ""
+        text = f"{findings.traces}{of} traces, {findings.differing} differ in {len(findings.kinds)} kinds{left}"
         self.progress.tell(text)
         now = time.monotonic()
         if not self.progress.is_wanted and now - self.last_told > QUIET_SECONDS:

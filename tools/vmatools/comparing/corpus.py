@@ -5,7 +5,7 @@ A trace depends on the seed, the profiles and the traces with lower numbers, and
 from __future__ import annotations
 
 import random
-from collections.abc import Callable, Iterable, Sequence
+from collections.abc import Callable, Collection, Iterable, Sequence
 
 from ..traces import Trace
 from . import generator
@@ -25,16 +25,17 @@ class Corpus:
         seed: int,
         lines: int,
         profiles: Sequence[str],
-        seeds: Iterable[Trace],
+        seeds: Iterable[tuple[str, Trace]],
         is_fitted: bool = False,
         told: Callable[[Trace], None] = lambda trace: None,
     ) -> None:
         self.seed, self.lines, self.profiles, self.is_fitted = seed, lines, profiles, is_fitted
-        self.seeds, self.told = iter(seeds), told
+        self.seeds, self.told = seeds, told
         self.random = random.Random(f"corpus {seed}")
         self.changer = Changer(self.random, MOST_LINES)
         self.known: set[Pair] = set()
-        self.before = 0  # pairs that the seeds have reached
+        self.of_seeds: dict[str, Trace] = {}
+        self.before = 0  # pairs that the seeds reach
         self.entries: list[Entry] = []
         self.number = 0
         self.reached: list[int] = []  # how many pairs were known before each trace
@@ -43,6 +44,18 @@ class Corpus:
     def late(self) -> int:
         """Pairs that the last tenth of the traces reached first."""
         return len(self.known) - self.reached[len(self.reached) * 9 // 10] if self.reached else 0
+
+    def reached_of(self, names: Collection[str]) -> tuple[int, int, int]:
+        """How many pairs were reached where of the seeds these alone were run: all, those of these, and those of the last tenth
+        of the traces. Where seeds were not run, a pair of theirs isn't counted for a trace that reached it again."""
+        ran = [trace for name, trace in self.of_seeds.items() if name in names]
+        before = self.before
+        if len(ran) < len(self.of_seeds):
+            known: set[Pair] = set()
+            for trace in ran:
+                last_fresh(trace, known)
+            before = len(known)
+        return len(self.known) - self.before + before, before, self.late
 
     def trace(self, number: int) -> tuple[Trace, str]:
         """The trace of a number that is none of those that were made, and in words what it was made of."""
@@ -65,7 +78,8 @@ class Corpus:
         return trace.numbered(), "a change of others"
 
     def begin(self) -> None:
-        for trace in self.seeds:
+        self.of_seeds = dict(self.seeds)
+        for trace in self.of_seeds.values():
             self.measure(trace)
         self.before = len(self.known)
 
@@ -89,15 +103,7 @@ class Corpus:
 
     def measure(self, trace: Trace, told: Callable[[Trace], None] = lambda trace: None) -> None:
         """Keeps a trace that reaches a new pair."""
-        parent = Watched(trace, self.known)
-        children: dict[int, Watched] = {}
-        for place, line in enumerate(trace.lines, 1):
-            space = children.get(line.thread, parent)
-            if line.word == "fork":
-                children[line.arguments[0]] = space.child()
-            else:
-                space.answer(line._replace(number=place))
-        self.keep(trace, parent.fresh[0], told)
+        self.keep(trace, last_fresh(trace, self.known), told)
 
     def keep(self, trace: Trace, last: int, told: Callable[[Trace], None]) -> None:
         """Keeps a trace up to the last of its lines that reached something new, if one did."""
@@ -105,3 +111,16 @@ class Corpus:
             kept = trace.with_lines(trace.lines[:last])
             self.entries.append(entry_of(kept))
             told(kept)
+
+
+def last_fresh(trace: Trace, known: set[Pair]) -> int:
+    """Adds the pairs that a trace reaches to those that are known, and returns the last of its lines that reached one first."""
+    parent = Watched(trace, known)
+    children: dict[int, Watched] = {}
+    for place, line in enumerate(trace.lines, 1):
+        space = children.get(line.thread, parent)
+        if line.word == "fork":
+            children[line.arguments[0]] = space.child()
+        else:
+            space.answer(line._replace(number=place))
+    return parent.fresh[0]

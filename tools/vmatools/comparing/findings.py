@@ -15,6 +15,7 @@ from ..outputs import Difference
 from . import junit, ranking
 from .answers import Answers
 
+MOST_SHOWN = 10  # kinds whose traces are made small and printed; of others, a line and the command that shows them
 Name = tuple[str, str, str]
 
 
@@ -115,16 +116,18 @@ class Baseline:
 
 
 class Pairs(NamedTuple):
-    """How many pairs traces have reached, as far as they were measured: all, those of the suite and of what was kept, and those
-    that the last tenth of the others reached first."""
+    """How many pairs traces have reached, as far as they were measured: all, those of the suite's cases and kept traces that were
+    run, and those that the last tenth of the others reached first."""
 
     all: int = 0
     before: int = 0
     late: int = 0
 
     def __str__(self) -> str:
-        by = f"{self.before} of them by the suite and what was kept, {self.late} by the last tenth of the run"
-        return f"{self.all} pairs reached, {by}"
+        late = f"{self.late} by the last tenth of the run"
+        if not self.before:
+            return f"{self.all} pairs reached beyond those of the suite, which was not run, {late}"
+        return f"{self.all} pairs reached, {self.before} of them by the suite and what was kept, {late}"
 
 
 @dataclass
@@ -140,7 +143,7 @@ class Findings:
     differing: int = 0
     known_alone: int = 0  # traces that differ in known ways alone
     is_cut: bool = False  # a trace had more findings than were looked for
-    is_full: bool = False  # the run ended where so many kinds were open
+    cases_left: int = 0  # of the suite, not come to
     left_out: Counter[str] = field(default_factory=Counter)  # traces that the system can't run, by the reason
     lacks: set[str] = field(default_factory=set)  # operations that the system hasn't
     kept: dict[str, str] = field(default_factory=dict)  # what an earlier run has kept and this one hasn't run: file and kind
@@ -165,6 +168,11 @@ class Findings:
         """The kinds that are not known, what counts most first, and then the most frequent."""
         new = [(name, kind) for name, kind in self.kinds.items() if not self.baseline.of(name)]
         return sorted(new, key=lambda item: (ranking.rank_of(item[1].shortest.difference), -item[1].count, item[0]))
+
+    def first_to_show(self) -> list[tuple[str, Kind]]:
+        """Of the kinds whose trace was not printed the first ones, where few were."""
+        shown = sum(kind.is_shown for kind in self.kinds.values())
+        return [item for item in self.in_order() if not item[1].is_shown][: max(MOST_SHOWN - shown, 0)]
 
     @property
     def has_new_kinds(self) -> bool:
@@ -196,8 +204,8 @@ class Findings:
             yield f"left out of all traces: {', '.join(sorted(self.lacks))}, which is not there"
         if self.is_cut:
             yield "some traces have more differences than --most allows"
-        if self.is_full:
-            yield f"{len(self.in_order())} kinds are open: mend these first, or `--all` goes on"
+        if self.cases_left:
+            yield f"{counted(self.cases_left, 'case')} of the suite not run: the run ended before"
 
     def end_event(self, status: int, stopped: Optional[str]) -> dict[str, Any]:
         known = {line.pattern: {"count": line.count, "reason": line.reason} for line in self.baseline.known}

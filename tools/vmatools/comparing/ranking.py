@@ -36,7 +36,7 @@ def name_of(difference: Difference) -> str:
         return "protection" if "SEGV_ACCERR" in here + there else "lost or wrong data"
     if there.startswith("a list"):
         return "list"
-    return "place" if there == "another address" else "reply"
+    return "place" if there in ("another address", "a place outside") else "reply"
 
 
 def above(findings: Mapping[str, Finding]) -> dict[str, str]:

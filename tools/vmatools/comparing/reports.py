@@ -74,6 +74,8 @@ class Report:
         above = ranking.above({name: kind.shortest for name, kind in kinds.items() if kind.is_shrunk})
         for name in [name for name in kinds if name not in above]:
             yield f"  {ranking.name_of(kinds[name].shortest.difference):20}{self.counted(name, kinds[name])}"
+            if not kinds[name].is_shown:
+                yield f"  {'':20}  {kinds[name].shortest.repeat}"
             for other in [other for other in kinds if above.get(other) == name]:
                 yield f"  {'':20}  {self.counted(other, kinds[other])}, which vanishes with it"
 
@@ -82,9 +84,9 @@ class Report:
 
     def end(self, findings: Findings, has_coverage: bool, stopped: str | None) -> None:
         """All that there is to say at the end."""
-        for name, kind in findings.in_order():
-            if not kind.is_shown:
-                self.small(name, kind)
+        for name, kind in findings.first_to_show():
+            self.small(name, kind)
+            kind.is_shown = True
         if findings.has_new_kinds:
             self.line("\n".join(["what counts most first:", *self.ranked(findings), ""]))
         for name, number in sorted(findings.aside.items()):

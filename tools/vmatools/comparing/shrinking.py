@@ -411,21 +411,34 @@ class Shrinker:
     def plain_files(self) -> bool:
         def candidates(trace: Trace) -> Iterator[Trace]:
             for place, file in enumerate(trace.files):
-                plain = File(file.descriptor, "rw", PAGE, 0, 0, 1, "/f")
-                modes = [file._replace(mode=mode) for mode in ("r", "rw")]
-                sizes = [file._replace(size=size) for size in (0, 1, PAGE, 2 * PAGE)]
-                for other in [
-                    plain,
-                    plain._replace(mode="r"),
-                    plain._replace(mode=file.mode, size=file.size),
-                    *modes,
-                    *sizes,
-                ]:
-                    fewer = trace.with_lines(trace.lines)
+                for other in plain_files(file):
+                    lines = [with_descriptor(line, file.descriptor, other.descriptor) for line in trace.lines]
+                    fewer = trace.with_lines(lines)
                     fewer.files = trace.files[:place] + [other] + trace.files[place + 1 :]
                     yield fewer
 
         return self.repeated(candidates)
+
+
+def plain_files(file: File) -> list[File]:
+    """A file made plainer, the plainest first."""
+    plain = File(3, "rw", PAGE, 0, 0, 1, "/f")
+    return [
+        plain,
+        plain._replace(mode="r"),
+        plain._replace(mode=file.mode, size=file.size),
+        plain._replace(mode=file.mode, size=file.size, major=file.major, minor=file.minor, inode=file.inode),
+        file._replace(descriptor=3),
+        *(file._replace(mode=mode) for mode in ("r", "rw")),
+        *(file._replace(size=size) for size in (0, 1, PAGE, 2 * PAGE)),
+    ]
+
+
+def with_descriptor(line: Line, old: int, new: int) -> Line:
+    """The line with another descriptor in the place of one."""
+    if line.word != "mmap" or line.arguments[4] != old:
+        return line
+    return line._replace(arguments=[*line.arguments[:4], new, line.arguments[5]])
 
 
 def with_settings(trace: Trace, **settings: Optional[int]) -> Trace:

@@ -25,8 +25,9 @@ from .words import window_of
 MACHINE_KIND_SECONDS = 120.0  # for making the trace of a kind small, in a machine that has to be booted where it dies
 FIRST_SECONDS = 10.0  # for an adapter to answer a trace without lines
 ADDRESS = re.compile(r"= 0x([0-9a-f]+)$", re.MULTILINE)
+OUTSIDE = "a place outside"
 HEAP_NAME = re.compile(r" +\[heap\]$", re.MULTILINE)
-FOR_SECONDS = 60.0  # how long traces are run in a known system, where nothing else is asked for
+FOR_SECONDS = 120.0  # how long traces are run, where nothing else is asked for
 
 
 def add_arguments(parser: argparse.ArgumentParser) -> None:
@@ -60,8 +61,13 @@ def take_system(options: argparse.Namespace) -> None:
     if system.boots:  # one at a time; and the trace that finds it not yet begun waits for it
         options.jobs, options.seconds, options.shrink_seconds = 1, MACHINE_SECONDS, MACHINE_SECONDS
         options.kind_seconds = MACHINE_KIND_SECONDS
-    if not options.runs and not options.for_seconds and not options.only and not options.traces:
+    if has_no_end(options):
         options.for_seconds, options.begin = FOR_SECONDS, None  # which begins when the system has begun
+
+
+def has_no_end(options: argparse.Namespace) -> bool:
+    """Whether no word says when the run ends."""
+    return not (options.runs or options.for_seconds or options.only or options.traces)
 
 
 def words_of(options: argparse.Namespace) -> list[str]:
@@ -84,7 +90,7 @@ class Windowed:
 
     def outside(self, found: re.Match[str]) -> str:
         is_inside = self.window.low <= int(found[1], 16) < self.window.high
-        return found[0] if is_inside else "= a place outside"
+        return found[0] if is_inside else f"= {OUTSIDE}"
 
 
 @contextmanager
