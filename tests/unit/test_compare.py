@@ -391,6 +391,33 @@ class Runs(unittest.TestCase):
         self.assertEqual(list(run.shrinking.values()), ["fault/0/hung"])
         run.give_up()
 
+    def test_what_a_run_as_long_misses_is_told(self) -> None:
+        told, stream = findings.Findings(), io.StringIO()
+        suite = sorted(self.traces(1).glob("*.trace"))
+        right = comparison.InProcess(Space, comparison.Rules())
+        self.campaign(told, 5, sides=right, suite=suite, grows=True).run()
+        told.pairs = findings.Pairs(9, 5, 1)
+        reports.Report(stream).end(told, False, None)
+        self.assertIn("missed 5 to 7 of 361 wrong models; this one was shorter\n6 traces, 0 differ\n", stream.getvalue())
+        for seconds, wanted in ((29.5, "30 seconds .* 5 to 7 .* models$"), (119.5, "two minutes .* 0 or 1"), (900, "two minu")):
+            self.assertRegex(reports.missed_by(seconds), wanted)
+        told.differing = 1
+        stream = io.StringIO()
+        reports.Report(stream).end(told, False, None)
+        self.assertNotIn("wrong models", stream.getvalue())
+
+    def test_what_does_not_come_again_is_told(self) -> None:
+        class Once(comparison.InProcess):
+            def there(self, trace: Trace, seconds: float | None = None) -> Ran:
+                self.model = Space
+                return Ran("", "does not end", "") if not told.traces and not told.kinds else super().there(trace)
+
+        told, stream = findings.Findings(), io.StringIO()
+        sides = Once(Space, comparison.Rules())
+        self.campaign(told, 1, sides=sides, folder=self.traces(3), report=reports.Report(stream)).run()
+        self.assertEqual([kind.is_once for kind in told.kinds.values()], [True])
+        self.assertIn("   a trace, which did not differ again:\n", stream.getvalue())
+
     def test_cases_that_were_not_come_to_are_told(self) -> None:
         told = findings.Findings()
         suite = sorted(self.traces(5).glob("*.trace"))

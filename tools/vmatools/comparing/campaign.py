@@ -245,6 +245,7 @@ class Campaign:
                 self.tell()
         finally:
             self.give_up()
+            self.findings.seconds = time.monotonic() - self.begin
             self.findings.cases_left = len(self.cases)
             self.findings.pairs = Pairs(*self.corpus.reached_of(self.ran))
             self.progress.clear()
@@ -424,6 +425,7 @@ class Campaign:
         kind = self.findings.kinds[name]
         if small:
             kind.shortest, kind.is_shrunk = small, True
+        kind.is_once = small is None and not self.is_over
         self.ask_models(kind.shortest)
         self.write(kind.shortest, "smallest", count=kind.count)
         kind.is_shown = True

@@ -57,6 +57,7 @@ class Kind:
     shortest: Finding
     count: int = 0
     is_shrunk: bool = False
+    is_once: bool = False  # it did not come again on its trace
     is_shown: bool = False  # its trace was printed
 
     def add(self, finding: Finding) -> None:
@@ -139,6 +140,7 @@ class Findings:
     aside: Counter[str] = field(default_factory=Counter)
     coverage: Counter[str] = field(default_factory=Counter)
     pairs: Pairs = Pairs()
+    seconds: float = 0.0  # that the run took
     traces: int = 0
     differing: int = 0
     known_alone: int = 0  # traces that differ in known ways alone

@@ -16,6 +16,18 @@ PROGRAM = "program"  # the profile's side
 MOST_LINES = 12  # of an answer
 
 
+# Of WRONG_MODELS by rule, how many a run of so many seconds with a fast adapter missed: `dev/wrong-models --only rule --for ..`.
+WRONG_MODELS = 361
+MISSED = [(30, "30 seconds", "5 to 7"), (120, "two minutes", "0 or 1")]
+
+
+def missed_by(seconds: float) -> str:
+    """What a run as long as this one misses, as far as was measured."""
+    _, length, missed = next((row for row in MISSED[::-1] if row[0] <= seconds + 1), MISSED[0])
+    shorter = "; this one was shorter" if seconds + 1 < MISSED[0][0] else ""
+    return f"a run of {length} with a fast adapter missed {missed} of {WRONG_MODELS} wrong models{shorter}"
+
+
 class Report:
     """The text of a report, as it comes."""
 
@@ -42,6 +54,7 @@ class Report:
         """The smallest trace of a kind, or the one that there is."""
         finding = kind.shortest
         title = "the smallest trace" if kind.is_shrunk else "a trace, which was not made small"
+        title = "a trace, which did not differ again" if kind.is_once else title
         self.line(f"{self.title(name, kind)} (--ignore '{name}')\n   {title}:")
         self.line("\n".join(f"     {line}" for line in finding.trace.splitlines()))
         for side, answer, lines, colour in (
@@ -97,6 +110,8 @@ class Report:
             self.line("\n".join(coverage.report(findings.coverage)))
         if findings.pairs.all:
             self.line(str(findings.pairs))
+        if findings.pairs.before and not findings.differing:
+            self.line(missed_by(findings.seconds))
         if stopped:
             self.line(f"stopped by {stopped}")
         known_alone = f", {findings.known_alone} of them in known ways alone" if findings.known_alone else ""
