@@ -495,6 +495,11 @@ class Runs(unittest.TestCase):
         self.assertIn("trace 1 of seed 1", names[-1])
         self.assertFalse([name for name in names if "/wide/" in name or Path(name).with_suffix(".legal").exists()])
 
+    def test_kernel_is_the_linux_of_the_machine(self) -> None:
+        self.assertEqual(self.settings("--kernel").oracle, self.settings("--as", "linux").oracle)
+        self.assertTrue(self.settings("--kernel").oracle.kernel)
+        self.assertIn("--as", self.settings("--kernel").words)
+
     def test_a_run_has_two_minutes_where_no_word_ends_it(self) -> None:
         wanted = {"": 120, "--profile few": 120, "--threads 2": 120, "--for 5": 5, "--runs 5": None, "--only 3": None}
         for words, seconds in wanted.items():

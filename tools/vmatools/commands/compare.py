@@ -81,6 +81,16 @@ def thread_count(text: str) -> int:
     return value
 
 
+class OfMachine(argparse.Action):
+    """What is right is this machine's Linux."""
+
+    def __call__(self, parser: argparse.ArgumentParser, options: argparse.Namespace, *_: object) -> None:
+        try:
+            options.oracle = oracles.oracle_word("linux")
+        except argparse.ArgumentTypeError as wrong:
+            parser.error(f"--kernel: {wrong}")
+
+
 def add_traces(parser: argparse.ArgumentParser, default: str = "200") -> None:
     """The words that say which traces there are, for `emit` too."""
     parser.add_argument("--runs", type=count, metavar="N", help=f"how many random traces ({default})")
@@ -116,6 +126,7 @@ def add_arguments(parser: argparse.ArgumentParser) -> None:
         "--traces", type=Path, metavar="FOLDER", help="the files *.trace there, or one file, in place of random traces"
     )
     oracles.add_argument(parser, None, oracles.BY_SYSTEM)
+    parser.add_argument("--kernel", nargs=0, action=OfMachine, help="another name for `--as linux`")
     group.add_argument(
         "--suite",
         action=argparse.BooleanOptionalAction,
