@@ -390,6 +390,16 @@ class Runs(unittest.TestCase):
         run.make_small()
         self.assertEqual(list(run.shrinking.values()), ["fault/0/hung"])
         run.give_up()
+        run.shrinking.clear()
+        run.made = findings.MOST_SHOWN  # then only what hangs or crashes
+        run.make_small()
+        self.assertFalse(run.shrinking)
+        crash = findings.Finding("brk/0/x", Difference("brk", "0", "ended with status 1", 2, [], []), TWO.decode(), "a", "a")
+        told.kinds["brk/0/x"] = findings.Kind(crash)
+        run.see("brk/0/x", told.kinds["brk/0/x"])
+        run.make_small()
+        self.assertEqual(list(run.shrinking.values()), ["brk/0/x"])
+        run.give_up()
 
     def test_what_a_run_as_long_misses_is_told(self) -> None:
         told, stream = findings.Findings(), io.StringIO()

@@ -7,8 +7,8 @@ Two differences are of one kind if the same operation has the same pair of answe
 way. There are kinds for a COMMAND that ends by a signal or with a status other than 0, doesn't end within --seconds, or
 writes more than 64 MiB, and for an output with `a line of no known form`, one that ends early, and one that goes on. When a
 difference is found, its line is taken out and the rest of the trace runs again, so all differences of a trace are found. The
-shortest trace of a kind is made as small as it can be while it still differs in the same way, of ten kinds at most: of each
-other one the report has the command that does so, and --all does so for all.
+shortest trace of a kind is made as small as it can be while it still differs in the same way, of ten kinds, and of
+each hang and crash. For each other one the report has the command that does so; --all does so for all.
 
 What --ignore sets aside is counted. RULE is `list` (don't compare the lists at the end), `errors` (both sides
 refuse, with different errors), or a kind as it is printed, OPERATION/PROGRAM/YOURS, where `*` stands for anything. A
@@ -174,7 +174,7 @@ def add_arguments(parser: argparse.ArgumentParser) -> None:
         "--all",
         action="store_true",
         dest="makes_all",
-        help=f"shrink a trace of each kind of difference, not of the {MOST_SHOWN} that count most when a shrinker is free",
+        help=f"shrink a trace of each kind of difference, not of {MOST_SHOWN} and of each hang and crash",
     )
     report.add_argument(
         "--coverage", action="store_true", help="which rows of the tables of docs/MODEL.md the traces reached"

@@ -366,10 +366,13 @@ class Campaign:
         self.open.append(name)
 
     def make_small(self) -> None:
-        """Has one kind after the other made small, what counts most first, and so many at most."""
-        if self.open and not self.shrinking and (self.settings.makes_all or self.made < MOST_SHOWN):
-            kinds = self.findings.kinds
-            name = min(self.open, key=lambda name: ranking.rank_of(kinds[name].shortest.difference))
+        """Has one kind after the other made small, what counts most first: so many, and each hang and crash."""
+        if not self.open or self.shrinking:
+            return
+        kinds = self.findings.kinds
+        ranks = {name: ranking.rank_of(kinds[name].shortest.difference) for name in self.open}
+        name = min(self.open, key=lambda name: ranks[name])
+        if self.settings.makes_all or self.made < MOST_SHOWN or ranks[name] in ranking.ENDS:
             self.open.remove(name)
             self.made += 1
             self.shrinking[self.small.submit(self.made_small, kinds[name].shortest)] = name

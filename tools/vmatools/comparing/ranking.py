@@ -12,6 +12,7 @@ if TYPE_CHECKING:
     from .findings import Finding
 
 RANKS = ("hang", "crash", "lost or wrong data", "protection", "list", "reply", "place")
+ENDS = (0, 1)  # the places of a system that ends, or doesn't
 HANGS = ("does not end", "hung", "writes on and on")
 CRASH = re.compile("(ends|killed) by signal .*|(ends|ended) with status .*|ends")
 NO_OUTPUT = ("the output ends", "a line of no known form", "the output goes on", "no newline at the end")
