@@ -1,12 +1,10 @@
 -- For the laws of scripts: their first bad line, and the bytes that settle them.
-use Rattle.std.proofs.Common.{◌≡◌, ◌⊎◌, ℕ, ◌+◌, ◌≤◌, List, [], ◌∷◌, length, take, Option, Some, None, Result, Ok, Err, refl, ap, ◌∙◌, inl, inr, arith}
+use Rattle.std.proofs.Common.{◌≡◌, ◌⊎◌, ℕ, ◌+◌, ◌≤◌, List, length, take, Option, Some, None, Result, Ok, Err, refl, ap, ◌∙◌, inl, inr}
 use Rattle.text_lexer.specs.declared.error.Cause.{Cause}
-use Rattle.text_lexer.specs.declared.error.Cause.TheVariants.{Header}
 use Rattle.text_lexer.specs.declared.error.BadLine.{BadLine}
 use Rattle.text_lexer.specs.declared.limits.TheConstants.{LINE_LIMIT}
 use Rattle.text_lexer.specs.Causes.{◌>>=◌}
-use Rattle.text_lexer.specs.BadLines.{bad_line}
-use Rattle.text_lexer.specs.Lines.{input_limit, lines_from, raw_lines}
+use Rattle.text_lexer.specs.Lines.{input_limit, raw_lines}
 use Rattle.text_lexer.specs.Words.{words_of}
 use Rattle.text_lexer.proofs.Beginnings.{IsLimited, lines_leave-front, lines_leave-within}
 use Rattle.text_lexer.proofs.FirstBad.{lines_leave-Err}
@@ -16,12 +14,6 @@ use Rattle.step_script.specs.Grammar.{after_script_lines, whole_script, script_o
 use Rattle.step_script.specs.Laws.{IsFirstBadScriptLine, NamesNoCore}
 use Rattle.step_script.specs.Lines.{said_in, with_said, after_script_line}
 use Rattle.step_script.specs.Output.{output_of, script_output}
-
--- where there are no bytes, no line names a core
-pub script_of-empty : (bytes : List ℕ) → length bytes ≡ 0 → script_of bytes ≡ Err (bad_line 1 Header)
-unfolding script_of lines_from
-script_of-empty [] none = refl
-script_of-empty (byte ∷ bytes) none = absurd (omega arith)
 
 by_lines : (bytes : List ℕ) (first : BadLine) (read : Result (Option Script) BadLine) → after_script_lines None (raw_lines bytes) ≡ read
     → whole_script read ≡ Err first → IsFirstBadScriptLine bytes first ⊎ NamesNoCore bytes first

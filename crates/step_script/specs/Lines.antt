@@ -1,5 +1,5 @@
 -- What one line says and so does to the script so far, or the first test that it fails.
-use Rattle.std.specs.Prelude.{ℕ, Bool, false, not, ◌&&◌, List, [], ◌∷◌, codes, bytes_eq, nat_eq, nat_lt, Option, Some, None, Result, Ok, Err, if◌then◌else◌}
+use Rattle.std.specs.Prelude.{ℕ, Bool, false, true, not, ◌&&◌, List, [], ◌∷◌, codes, bytes_eq, nat_eq, nat_lt, Option, Some, None, Result, Ok, Err, if◌then◌else◌}
 use Rattle.text_lexer.specs.declared.error.Cause.{Cause}
 use Rattle.text_lexer.specs.declared.error.Cause.TheVariants.{Header, Word, Arity, TooMany}
 use Rattle.text_lexer.specs.Causes.{◌>>=◌}
@@ -57,14 +57,23 @@ may_take_memory None name = false
 may_take_memory (Some (Lock script)) name = is_end name
 may_take_memory (Some (Grace script)) name = is_publish name
 
--- the same of all words of a line
-abbrev pub words_may_take : Option Script → List (List ℕ) → Bool
-words_may_take script [] = false
-words_may_take script (name ∷ words) = may_take_memory script name
+-- whether a line of these words is passed over: it has none, or is a comment
+abbrev pub is_passed_over : List (List ℕ) → Bool
+is_passed_over [] = true
+is_passed_over (name ∷ words) = is_comment name
 
--- and of a line of this number: the header takes none
-abbrev pub line_may_take : Option Script → ℕ → List (List ℕ) → Bool
-line_may_take script number words = not (nat_eq number 1) && words_may_take script words
+-- whether a line of this number and these words says something: it is not the header, and not passed over
+abbrev pub speaks : ℕ → List (List ℕ) → Bool
+speaks number words = not (nat_eq number 1) && not (is_passed_over words)
+
+-- the same of a line whose text passes the tests of its bytes
+abbrev pub text_speaks : ℕ → Result (List ℕ) Cause → Bool
+text_speaks number (Ok text) = speaks number (words_of text)
+text_speaks number (Err cause) = false
+
+-- the same of a line
+abbrev pub line_speaks : RawLine → Bool
+line_speaks line = text_speaks line.number (text_of line)
 
 -- what a line says by its first word: before the line that names the core it is that line, and else an event
 unfoldable pub said_to : Option Script → List ℕ → List ℕ → List (List ℕ) → Result Said Cause
@@ -91,6 +100,13 @@ said_by script text (name ∷ words) = said_after script text name words
 unfoldable pub said_in : Option Script → ℕ → List ℕ → List (List ℕ) → Result Said Cause
 said_in script number text words = if nat_eq number 1 then (if is_header words then Ok (said.Nothing script) else Err Header)
     else said_by script text words
+
+-- whether a line says an event of a core
+abbrev pub has_event : Said → Bool
+has_event (said.Nothing script) = false
+has_event (said.Core script) = false
+has_event (said.Lock script event) = true
+has_event (said.Grace script event) = true
 
 -- the script with what the line of this number says
 abbrev pub script_with : ℕ → Said → Option Script

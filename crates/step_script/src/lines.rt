@@ -1,8 +1,10 @@
 //! What one line does to the script so far.
 
-ghost use Rattle.std.specs.Prelude.{◌≡◌, ◌+◌, ◌≤◌, IfOk, map};
+ghost use Rattle.std.specs.Prelude.{◌≡◌, ◌+◌, ◌≤◌, false, true, not, IfOk, map};
+ghost use Rattle.std.specs.List.{before_first};
 ghost use Rattle.text_lexer.specs.Reading.{Gives, GivesTested, ReadsAs, line_view};
-ghost use Rattle.step_script.specs.Lines.{is_header, read_counts, counts_of, read_core, may_take_memory, words_may_take, line_may_take, said_to, said_by, said_in, with_said, after_script_line};
+ghost use Rattle.text_lexer.specs.Words.{is_blank, words_of};
+ghost use Rattle.step_script.specs.Lines.{is_header, is_passed_over, speaks, line_speaks, has_event, read_counts, counts_of, read_core, may_take_memory, said_to, said_by, said_in, with_said, after_script_line};
 ghost use Rattle.step_script.specs.Reading.{LacksOnlyIf};
 ghost use Rattle.step_script.specs.Values.{AreCounts, IsScript, IsSoFar, IsSaid};
 
@@ -13,7 +15,9 @@ use crate::script::{CoreScript, Counts, MOST_LINES, Script};
 use grace_core::GraceEvent;
 use lock_core::LockEvent;
 use std::alloc::Global;
-use text_lexer::{CallError, Cause, RawLine, is_comment, text_of, words_of};
+use text_lexer::{
+    CallError, Cause, RawLine, is_comment, is_name, text_after_words, text_of, words_of,
+};
 
 /// What a line says, with the script so far to which it says it.
 #[derive(Debug, Drop)]
@@ -28,7 +32,7 @@ pub(crate) enum Said {
     Grace(CoreScript<GraceEvent>, GraceEvent),
 }
 
-/// The script after a line.
+/// The script after a line. The header and lines that are passed over take no memory.
 #[tactic(auto, unfolding(crate::specs::Lines::after_script_line))]
 pub(crate) fn after_line(
     alloc: Global,
@@ -39,10 +43,10 @@ pub(crate) fn after_line(
     ensures value { Gives (λ next. next) result (after_script_line script (line_view line.now)) }
     ensures fits { IfOk result (IsSoFar (line.now.number + 1)) }
     ensures few { IfOk result (λ _. line.now.number ≤ MOST_LINES) }
+    ensures memory { LacksOnlyIf (line_speaks (line_view line.now)) result }
 {
     let text = text_of(line)?;
-    let words = words_of(alloc, text)?;
-    let said = said_in(alloc, script, line.number, text, words.as_slice())?;
+    let said = said_in(alloc, script, line.number, text)?;
     let next = with_said(line.number, said)?;
     Ok(next)
 }
@@ -54,6 +58,7 @@ fn with_said(number: u64, said: Said) -> Result<Option<Script>, CallError>
     ensures value { GivesTested (λ next. next) result (with_said number said) }
     ensures fits { IfOk result (IsSoFar (number + 1)) }
     ensures few { IfOk result (λ _. number ≤ MOST_LINES) }
+    ensures memory { LacksOnlyIf (has_event said) result }
 {
     if MOST_LINES < number {
         return Err(CallError::Bad(Cause::TooMany));
@@ -79,57 +84,78 @@ fn said_in(
     script: Option<Script>,
     number: u64,
     text: &str,
-    words: &[&str],
 ) -> Result<Said, CallError>
     requires fits { IsSoFar number script }
-    ensures value { Gives (λ said. said) result
-        (said_in script number text.now (map (λ word. word.now) words.now)) }
+    ensures value { Gives (λ said. said) result (said_in script number text.now (words_of text.now)) }
     ensures fits { IfOk result (IsSaid number) }
-    ensures memory { LacksOnlyIf (line_may_take script number (map (λ word. word.now) words.now)) result }
+    ensures event { IfOk result (λ said. has_event said ≡ true → speaks number (words_of text.now) ≡ true) }
+    ensures memory { LacksOnlyIf (speaks number (words_of text.now)) result }
 {
     if number != 1 {
-        return said_by(alloc, script, number, text, words);
+        return said_by(alloc, script, number, text);
     }
-    if is_header(words) {
+    if is_header(text) {
         Ok(Said::Nothing(script))
     } else {
         Err(CallError::Bad(Cause::Header))
     }
 }
 
-/// Whether the words are those of the first line.
-#[tactic(auto, unfolding(crate::specs::Lines::is_header))]
-fn is_header(words: &[&str]) -> bool
-    ensures { result ≡ is_header (map (λ word. word.now) words.now) }
+/// Whether a text is that of the first line. No list of its words is made.
+fn is_header(text: &str) -> bool
+    ensures { result ≡ is_header (words_of text.now) }
 {
-    match words {
-        [name, version] => *name == "vmasteps" && *version == "1",
-        _ => false,
+    let name = first_word(text_after_words(text, 0));
+    if !is_name(name, "vmasteps") {
+        return false;
     }
+    let version = first_word(text_after_words(text, 1));
+    is_name(version, "1") && text_after_words(text, 2).is_empty()
 }
 
-/// What a line below the header says: nothing where it has no words or is a comment.
+/// What stands before the first blank of a text.
+fn first_word(text: &str) -> &str
+    ensures { result.now ≡ before_first is_blank text.now }
+{
+    let len = text
+        .as_bytes()
+        .iter()
+        .position(|byte| *byte == b' ' || *byte == b'\t')
+        .unwrap_or(text.len());
+    let (word, _) = text.split_at(len);
+    word
+}
+
+/// What a line below the header says: nothing where it is passed over, which is seen before its words take memory.
 #[tactic(auto, unfolding(crate::specs::Lines::said_by, crate::specs::Lines::said_after))]
 fn said_by(
     alloc: Global,
     script: Option<Script>,
     number: u64,
     text: &str,
-    words: &[&str],
 ) -> Result<Said, CallError>
     requires fits { IsSoFar number script }
-    ensures value { Gives (λ said. said) result
-        (said_by script text.now (map (λ word. word.now) words.now)) }
+    ensures value { Gives (λ said. said) result (said_by script text.now (words_of text.now)) }
     ensures fits { IfOk result (IsSaid number) }
-    ensures memory { LacksOnlyIf (words_may_take script (map (λ word. word.now) words.now)) result }
+    ensures event { IfOk result (λ said. has_event said ≡ true → is_passed_over (words_of text.now) ≡ false) }
+    ensures memory { LacksOnlyIf (not (is_passed_over (words_of text.now))) result }
 {
-    let [name, words @ ..] = words else {
-        return Ok(Said::Nothing(script));
-    };
-    if is_comment(name) {
+    if is_passed_over(text) {
         return Ok(Said::Nothing(script));
     }
+    let words = words_of(alloc, text)?;
+    let [name, words @ ..] = words.as_slice() else {
+        return Ok(Said::Nothing(script));
+    };
     said_to(alloc, script, number, text, name, words)
+}
+
+/// Whether a line of this text is passed over: it has no words, or is a comment.
+fn is_passed_over(text: &str) -> bool
+    ensures { result ≡ is_passed_over (words_of text.now) }
+{
+    let text = text_after_words(text, 0);
+    text.is_empty() || is_comment(text)
 }
 
 /// What a line says by its first word: it names the core, or else it has an event of the core.

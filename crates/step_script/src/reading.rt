@@ -1,8 +1,9 @@
 //! Which script bytes are.
 
-ghost use Rattle.std.specs.Prelude.{◌≡◌, ◌+◌, length, IfOk, None, Err};
+ghost use Rattle.std.specs.Prelude.{◌≡◌, ◌+◌, ◌<◌, IfOk, IfErr, IsErrOf, None, Err};
 ghost use Rattle.text_lexer.specs.BadLines.{bad_line};
 ghost use Rattle.text_lexer.specs.declared.error.Cause.TheVariants.{Header};
+ghost use Rattle.text_lexer.specs.declared.error.BadLine.{BadLine};
 ghost use Rattle.text_lexer.specs.Lines.{raw_lines};
 ghost use Rattle.step_script.specs.Grammar.{after_script_lines, script_of};
 ghost use Rattle.step_script.specs.Reading.{GivesRead};
@@ -13,16 +14,13 @@ use crate::script::{MOST_LINES, Script};
 use std::alloc::Global;
 use text_lexer::{CallError, Cause, ReadError, error_at, first_line};
 
-/// The script that the bytes are, or the first bad line and its cause.
+/// The script that the bytes are, or the first bad line and its cause. Line 1 is told whatever the memory.
 #[tactic(auto, unfolding(crate::specs::Grammar::script_of))]
 pub(crate) fn read_script(alloc: Global, bytes: &[u8]) -> Result<Script, ReadError>
     ensures value { GivesRead result (script_of bytes.now) }
     ensures fits { IfOk result (IsScript (MOST_LINES + 1)) }
-    ensures empty { length bytes.now ≡ 0 → result ≡ Err (ReadError.Bad (bad_line 1 Header)) }
+    ensures first { (first : BadLine) → script_of bytes.now ≡ Err first → first.line ≡ 1 → result ≡ Err (ReadError.Bad first) }
 {
-    if bytes.is_empty() {
-        return Err(no_core());
-    }
     match read_lines(alloc, bytes)? {
         Some(script) => Ok(script),
         None => Err(no_core()),
@@ -40,6 +38,7 @@ fn no_core() -> ReadError
 fn read_lines(alloc: Global, bytes: &[u8]) -> Result<Option<Script>, ReadError>
     ensures value { GivesRead result (after_script_lines None (raw_lines bytes.now)) }
     ensures fits { IfOk result (IsSoFar (MOST_LINES + 1)) }
+    ensures memory { IsErrOf result ReadError.NoMemory → IfErr (script_of bytes.now) (λ first. 1 < first.line) }
 {
     let mut script = None;
     let mut rest = bytes;

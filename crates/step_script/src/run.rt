@@ -1,8 +1,7 @@
 //! The output of a script.
 
-ghost use Rattle.std.specs.Prelude.{◌≡◌, ◌+◌, length, IfOk, IfErr, Ok, Err};
-ghost use Rattle.text_lexer.specs.BadLines.{bad_line};
-ghost use Rattle.text_lexer.specs.declared.error.Cause.TheVariants.{Header};
+ghost use Rattle.std.specs.Prelude.{◌≡◌, ◌+◌, IfOk, IfErr, Ok, Err};
+ghost use Rattle.text_lexer.specs.declared.error.BadLine.{BadLine};
 ghost use Rattle.step_script.specs.Output.{script_output, script_text};
 ghost use Rattle.text_lexer.specs.Reading.{IsErrorOf};
 ghost use Rattle.step_script.specs.Values.{IsScript};
@@ -19,12 +18,13 @@ use text_lexer::ReadError;
 /// and the state after it. The whole script is read before the first event is made.
 ///
 /// `ReadError::Bad` comes exactly where the bytes are no script, with their first bad line and its cause; where no line is bad
-/// and none names a core, this is line 1 and `Cause::Header`. `ReadError::NoMemory` comes where memory runs out.
+/// and none names a core, this is line 1 and `Cause::Header`. `ReadError::NoMemory` comes where memory runs out: where line 1 is
+/// named, as with no bytes, none is taken.
 #[tactic(auto, unfolding(crate::specs::Output::script_output))]
 pub fn run_script(alloc: Global, bytes: &[u8]) -> Result<Vec<u8>, ReadError>
     ensures text { IfOk result (λ text. script_output bytes.now ≡ Ok text.items) }
     ensures bad { IfErr result (λ error. IsErrorOf error (script_output bytes.now)) }
-    ensures empty { length bytes.now ≡ 0 → result ≡ Err (ReadError.Bad (bad_line 1 Header)) }
+    ensures first { (first : BadLine) → script_output bytes.now ≡ Err first → first.line ≡ 1 → result ≡ Err (ReadError.Bad first) }
 {
     let script = read_script(alloc, bytes)?;
     Ok(script_text(alloc, script)?)

@@ -1,5 +1,5 @@
 -- For `read_lines`: what its loop keeps.
-use Rattle.std.proofs.Common.{◌≡◌, ◌+◌, ◌-◌, ◌≤◌, length}
+use Rattle.std.proofs.Common.{◌≡◌, ◌+◌, ◌-◌, ◌<◌, ◌≤◌, length}
 use Rattle.std.specs.Prelude.{None}
 use Rattle.text_lexer.specs.Lines.{lines_from, raw_lines}
 use Rattle.step_script.specs.declared.script.TheConstants.{MOST_LINES}
@@ -16,6 +16,7 @@ invariant-loop-rest l = record {
   within : length l.rest ≤ length l.bytes;
   fits : IsSoFar l.number l.script;
   few : l.number ≤ MOST_LINES + 1;
+  begun : 0 < l.number;
 }
 
 abbrev pub decreases-loop-rest : goal.decreases-loop-rest
