@@ -1,4 +1,4 @@
--- All that is used of `call_of` and `asks_for`, which nothing else unfolds but the code that computes them.
+-- All that is used of `call_made` and `asks_for`, which nothing else unfolds but the code that computes them.
 use Rattle.std.proofs.Common.{ℕ, ◌≡◌, ◌∙◌, refl, sym, ap, subst, cond, Bool, true, false, List, All, Option, Some, None, inl, inr}
 use Rattle.std.proofs.lemmas.Bool.{cases_Bool, cond-true, cond-false}
 use Rattle.std.proofs.lemmas.List.Elements.{All-weaker}

@@ -20,6 +20,7 @@ use Rattle.history.specs.declared.items.Content.TheVariants as contents
 use Rattle.history.specs.declared.items.Item.{Item}
 use Rattle.history.specs.Histories.{items_of, lines_of, read_as, op_asked, is_call, journal_of, line_answered, StandsAmong, IsLegalHistory, gather}
 use Rattle.history.specs.Runs.{entry_items, logs_items, history_of, own_of, ops_of, asked, IsRun, place_key}
+use Rattle.history.proofs.LineAnswers.{AreToldAt, told_at}
 use Rattle.history.proofs.Lists.{split_at, at_place, slice_get_found}
 use Rattle.history.proofs.Calls.{answer_made, answer_right}
 use Rattle.history.proofs.Naming.{stands_before}
@@ -213,13 +214,13 @@ did_call items own place item line same here there call =
     of_op (contents.List areas) (ops.Fork child) same asks = absurd (false≢true asks)
 
 -- what the line of an item names stands before it
-told_at : (config : Config) (start : List Entry) (lines : List TraceLine) (callers : ℕ) (journal : List Entry) (logs : List (List Seen))
+line_told : (config : Config) (start : List Entry) (lines : List TraceLine) (callers : ℕ) (journal : List Entry) (logs : List (List Seen))
     → IsRun config start lines callers journal logs → callers ≤ 2 ^ 32 → AreNumbered lines → AreNamesRight lines
     → (place : ℕ) (item : Item) → slice_get (history_of journal logs) place ≡ Some item
     → IfSome (line_answered lines (take place (history_of journal logs)) item)
     (λ line. IfSome line.after (StandsAmong lines (take place (history_of journal logs))))
 unfolding line_answered
-told_at config start lines callers journal logs run few numbered names place item found =
+line_told config start lines callers journal logs run few numbered names place item found =
     by_line (slice_get (lines_of lines item.caller) next) refl
   where
     gathered : IsGathered config start journal logs
@@ -227,6 +228,9 @@ told_at config start lines callers journal logs run few numbered names place ite
 
     next : ℕ
     next = length (items_of (take place (history_of journal logs)) item.caller)
+
+    order_told : AreToldAt (λ caller log. own_of caller journal log) lines logs
+    order_told = told_at (λ caller log. own_of caller journal log) lines logs run.told
 
     answered_at : (line : TraceLine) → slice_get (lines_of lines item.caller) next ≡ Some line → (number : ℕ) → line.after ≡ Some number
         → (teller there : ℕ) (named : TraceLine) → slice_get (lines_of lines teller) there ≡ Some named → named.number ≡ number
@@ -249,7 +253,7 @@ told_at config start lines callers journal logs run few numbered names place ite
         stands_before journal logs gathered.small teller there place its.0 said.0 item its.1 said.1
         (did_call (own_of teller journal its.0) (lines_of lines teller) there said.0 named (run.done teller its.0 its.1) said.1 named_here call)
         found
-        (run.told item.caller next mine.0 item line number mine.1 own here is teller there its.0 said.0 named its.1 said.1 named_here same)
+        (order_told item.caller next mine.0 item line number mine.1 own here is teller there its.0 said.0 named its.1 said.1 named_here same)
 
     by_number : (line : TraceLine) → slice_get (lines_of lines item.caller) next ≡ Some line → (after : Option ℕ) → line.after ≡ after
         → IfSome after (StandsAmong lines (take place (history_of journal logs)))
@@ -286,7 +290,7 @@ history_is_legal config start lines callers journal logs run few numbered names 
         order = order_at config start journal logs gathered place item found;
         next = next_line lines items same place item found;
         made = answer_made config (start ++ journal_of (take place items)) item.content here.right;
-        named = told_at config start lines callers journal logs run few numbered names place item found;
+        named = line_told config start lines callers journal logs run few numbered names place item found;
       };
       right = λ place item found.
           answer_right config (start ++ journal_of (take place items)) item.content

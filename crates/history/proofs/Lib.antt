@@ -11,6 +11,7 @@ pub mod Steps
 pub mod Legal
 pub mod Placed
 pub mod Naming
+pub mod LineAnswers
 pub mod Finished
 pub mod Touches
 pub mod Labels

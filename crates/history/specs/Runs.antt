@@ -1,5 +1,5 @@
 -- Finished runs: what callers did, as items of a history.
-use Rattle.std.specs.Prelude.{ℕ, ◌≡◌, ◌≤◌, ◌+◌, ◌*◌, ◌^◌, if◌then◌else◌, List, [], ◌∷◌, ◌++◌, length, map, take, slice_get, Some, All}
+use Rattle.std.specs.Prelude.{ℕ, ◌≡◌, ◌≤◌, ◌+◌, ◌*◌, ◌^◌, if◌then◌else◌, List, [], ◌∷◌, ◌++◌, length, map, take, zip, slice_get, Some, All, Contains}
 use Rattle.mm_types.specs.declared.call.Call.{Call}
 use Rattle.mm_types.specs.declared.call.Call.TheVariants.{Mmap, Munmap, Mprotect, Mremap, Touch, Brk, Mseal}
 use Rattle.mm_types.specs.declared.call.Entry.{Entry}
@@ -95,14 +95,19 @@ pub record IsReadRightAfter (config : Config) (start journal : List Entry) (read
 abbrev pub ComesAfter : Item → Item → Type 0
 ComesAfter said heard = said.version + (if is_call heard.content then 1 else 0) ≤ heard.version
 
--- where a line names a line, what its caller did for it comes after what the other's caller did for that one
+-- the lines of callers from this one on, each with the item that answers it: a caller's items answer its lines in their order
+abbrev pub answered_lines : {X : Type 0} → (ℕ → X → List Item) → List TraceLine → ℕ → List X → List (TraceLine × Item)
+answered_lines own lines caller [] = []
+answered_lines own lines caller (one ∷ others) = zip (lines_of lines caller) (own caller one) ++ answered_lines own lines (caller + 1) others
+
+-- where a line names a line, what was done for it comes after what was done for that one
+abbrev pub ComeAfterNamed : List (TraceLine × Item) → Type 0
+ComeAfterNamed answered = (heard said : TraceLine × Item) → Contains answered heard → Contains answered said
+    → heard.0.after ≡ Some said.0.number → ComesAfter said.1 heard.1
+
+-- so of what callers did by this journal and their logs
 abbrev pub AreTold : List TraceLine → List Entry → List (List Seen) → Type 0
-AreTold lines journal logs = (caller place : ℕ) (log : List Seen) (item : Item) (line : TraceLine) (number : ℕ)
-    → slice_get logs caller ≡ Some log → slice_get (own_of caller journal log) place ≡ Some item
-    → slice_get (lines_of lines caller) place ≡ Some line → line.after ≡ Some number
-    → (teller there : ℕ) (other : List Seen) (said : Item) (named : TraceLine)
-    → slice_get logs teller ≡ Some other → slice_get (own_of teller journal other) there ≡ Some said
-    → slice_get (lines_of lines teller) there ≡ Some named → named.number ≡ number → ComesAfter said item
+AreTold lines journal logs = ComeAfterNamed (answered_lines (λ caller log. own_of caller journal log) lines 0 logs)
 
 -- A finished run of the lines of a trace by so many callers, in a space that began with some entries: behind these the journal is legal and
 -- the operation of each entry makes it there, there is a log for each caller whose reads are right in the journal, what each caller did is

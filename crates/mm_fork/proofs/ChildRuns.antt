@@ -14,7 +14,8 @@ use Rattle.area_rules.specs.Steps.{step, after, IsLegalJournal}
 use Rattle.area_rules.specs.Journals.{calls_by, version_of, IsReadAfter, IsReadRight}
 use Rattle.history.specs.declared.items.Item.{Item}
 use Rattle.history.specs.Histories.{lines_of, is_call, journal_of, IsLegalHistory}
-use Rattle.history.specs.Runs.{own_of, ops_of, asked, history_of, HasGrown, IsLegalAfter, IsReadRightAfter, AreTold, IsRun}
+use Rattle.history.specs.Runs.{own_of, ops_of, asked, history_of, HasGrown, IsLegalAfter, IsReadRightAfter, IsRun}
+use Rattle.history.proofs.LineAnswers.{AreToldAt, told_from}
 use Rattle.history.proofs.Touches.{touches_made}
 use Rattle.history.proofs.Finished.{history_is_legal, run_journal}
 use Rattle.mm_fork.specs.Behind.{shifted, unshifted, log_behind}
@@ -33,7 +34,7 @@ pub record IsWholeRun (config : Config) (before : List Entry) (lines : List Trac
   pub later : (caller : ℕ) (log : List Seen) → slice_get logs caller ≡ Some log → All (λ read. length before ≤ version_of read) log
   pub done : (caller : ℕ) (log : List Seen) → slice_get logs caller ≡ Some log
       → ops_of (own_of caller (before ++ own) log) ≡ asked (lines_of lines caller)
-  pub told : AreTold lines (before ++ own) logs
+  pub told : AreToldAt (λ caller log. own_of caller (before ++ own) log) lines logs
   pub apart : (caller : ℕ) → caller < callers → calls_by caller before ≡ []
   pub others : (caller : ℕ) → callers ≤ caller → calls_by caller own ≡ []
   pub no_lines : (caller : ℕ) → callers ≤ caller → lines_of lines caller ≡ []
@@ -86,7 +87,8 @@ earlier s n t i before = omega arith
 
 -- and comes as late after what it was told
 told_behind : (config : Config) (before : List Entry) (lines : List TraceLine) (callers : ℕ) (own : List Entry) (logs : List (List Seen))
-    → IsWholeRun config before lines callers own logs → AreTold lines own (map (log_behind (length before)) logs)
+    → IsWholeRun config before lines callers own logs
+    → AreToldAt (λ caller log. own_of caller own log) lines (map (log_behind (length before)) logs)
 told_behind config before lines callers own logs run caller place log item line number logged stood asked names teller there other said named
     told_log told_stood told_asked is =
     let n : ℕ = length before in
@@ -126,7 +128,7 @@ run_behind config before lines callers own logs run =
           ∙ sym (ops_behind caller before own from.0 (own_apart config before lines callers own logs run caller from.0 from.1)
           (run.later caller from.0 from.1))
           ∙ run.done caller from.0 from.1;
-      told = told_behind config before lines callers own logs run;
+      told = told_from (λ caller log. own_of caller own log) lines (map (log_behind n) logs) (told_behind config before lines callers own logs run);
       others = run.others;
       no_lines = run.no_lines;
     }

@@ -14,6 +14,7 @@ use Rattle.history.specs.declared.callers.TheConstants.{MOST_THREADS}
 use Rattle.history.specs.declared.items.Item.{Item}
 use Rattle.history.specs.Histories.{lines_of}
 use Rattle.history.specs.Runs.{own_of, ops_of, asked, HasGrown, AreMade, AreTold, IsReadRightAfter, IsRun}
+use Rattle.history.proofs.LineAnswers.{told_at, told_from}
 use Rattle.history.proofs.Steps.{own_same}
 use Rattle.history.proofs.Touches.{touches_made}
 use Rattle.history.proofs.ThreadCounts.{no_lines_past}
@@ -111,11 +112,13 @@ module _ (name : SpaceId) (lines : List TraceLine) (passes : List PassView) (clo
 
   -- what a line names comes before it in the journal too
   told_in : AreToldBy lines passes → AreTold lines closed.journal closed.logs
-  told_in told by place log item line number found item_is at names teller there other said named other_is said_is at_there is =
+  told_in told = told_from (λ place log. own_of place closed.journal log) lines closed.logs
+      (λ by place log item line number found item_is at names teller there other said named other_is said_is at_there is.
       let mine = log_own by log found in
       let theirs = log_own teller other other_is in
-      told by place mine.0 item line number mine.1 (ap (λ (l : List Item). slice_get l place) (sym mine.2) ∙ item_is) at names
-      teller there theirs.0 said named theirs.1 (ap (λ (l : List Item). slice_get l there) (sym theirs.2) ∙ said_is) at_there is
+      told_at (λ place pass. own_by pass) lines passes told by place mine.0 item line number mine.1
+      (ap (λ (l : List Item). slice_get l place) (sym mine.2) ∙ item_is) at names
+      teller there theirs.0 said named theirs.1 (ap (λ (l : List Item). slice_get l there) (sym theirs.2) ∙ said_is) at_there is)
 
   many : length closed.logs ≡ length name.operations
   many = ap length closes.logs ∙ length-map passes (λ (pass : PassView). pass.log) ∙ are.all

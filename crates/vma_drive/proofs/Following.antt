@@ -7,6 +7,7 @@ use Rattle.std.proofs.lemmas.List.{append-nil}
 use Rattle.std.proofs.lemmas.Option.{none-some, slice_get_within, slice_get-get_or}
 use Rattle.trace_reader.specs.declared.trace.TraceLine.{TraceLine}
 use Rattle.trace_reader.specs.Values.{AreNumbered}
+use Rattle.history.proofs.LineAnswers.{AreToldAt, told_at, told_from}
 use Rattle.history.specs.declared.items.Item.{Item}
 use Rattle.history.specs.Histories.{caller_of, lines_of, is_call}
 use Rattle.history.specs.CallerPlaces.{ArePlaces, StandAt}
@@ -187,8 +188,8 @@ module _ (lines : List TraceLine) (rounds : List ℕ) (tellings : List Telling) 
       let at : OwnAt lines (lines_of lines caller) turned.own.items index = own_at lines (lines_of lines caller) turned.own.items index turned.stand within in
       (within, at.stands ∙ sym at.own_is ∙ found)
 
-  pub told_on : AreToldBy lines olds → AreToldBy lines news
-  told_on told c i pass item line number its item_is stands after t j other said named other_is said_is there same =
+  told_on_at : AreToldAt (λ place pass. own_by pass) lines olds → AreToldAt (λ place pass. own_by pass) lines news
+  told_on_at told c i pass item line number its item_is stands after t j other said named other_is said_is there same =
       let telling : Turn t other = turn t other other_is in
       let hearing : Turn c pass = turn c pass its in
       let at = at_index t j other named telling there in
@@ -234,3 +235,6 @@ module _ (lines : List TraceLine) (rounds : List ℕ) (tellings : List Telling) 
             at_place (IsLate (length (seen_by hearing.mid))) hearing.run.more mine.0 item hearing.run.grew.late mine.1 in
             omega (arith, low, after)
       ]
+
+  pub told_on : AreToldBy lines olds → AreToldBy lines news
+  told_on told = told_from (λ place pass. own_by pass) lines news (told_on_at (told_at (λ place pass. own_by pass) lines olds told))

@@ -9,6 +9,7 @@ use Rattle.std.proofs.lemmas.List.Sums.{sum_by-cons}
 use Rattle.std.proofs.lemmas.Option.{slice_get_within, slice_get-get_or}
 use Rattle.trace_reader.specs.declared.trace.TraceLine.{TraceLine}
 use Rattle.trace_reader.specs.Values.{AreNumbered}
+use Rattle.history.proofs.LineAnswers.{told_from}
 use Rattle.history.specs.declared.items.Item.{Item}
 use Rattle.history.specs.Histories.{lines_of}
 use Rattle.history.specs.Runs.{ops_of, asked}
@@ -98,8 +99,9 @@ module _ (name : SpaceId) (lines : List TraceLine)
             let found : slice_get passes caller ≡ Some pass = slice_get-get_or passes caller (some passes caller within) within in
             let left : length (lines_of lines caller) + tells lines caller ≤ pass.left = enough.each caller pass found in
             omega (arith, left, each caller pass found, all_from caller tellings, settled.tellings_are.told caller);
-        told = λ caller place pass item line number found item_is stands after teller there other said named other_is said_is.
-            absurd (omega (arith, slice_get_within (own_by pass) place item item_is, ap length (none caller pass found)));
+        told = told_from (λ place pass. own_by pass) lines passes
+            (λ caller place pass item line number found item_is stands after teller there other said named other_is said_is.
+            absurd (omega (arith, slice_get_within (own_by pass) place item item_is, ap length (none caller pass found))));
       }
     where
       some : (passes : List PassView) (caller : ℕ) → caller < length passes → PassView

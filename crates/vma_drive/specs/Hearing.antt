@@ -3,8 +3,8 @@ use Rattle.std.specs.Prelude.{ℕ, ◌≡◌, ◌≤◌, ◌+◌, if◌then◌el
 use Rattle.trace_reader.specs.declared.trace.Op.{Op}
 use Rattle.trace_reader.specs.declared.trace.TraceLine.{TraceLine}
 use Rattle.history.specs.declared.items.Item.{Item}
-use Rattle.history.specs.Histories.{is_call, lines_of, op_asked, read_as}
-use Rattle.history.specs.Runs.{own_of, ops_of, asked, HasGrown, ComesAfter}
+use Rattle.history.specs.Histories.{is_call, op_asked, read_as}
+use Rattle.history.specs.Runs.{own_of, ops_of, asked, HasGrown, ComeAfterNamed, answered_lines}
 use Rattle.fault_path.specs.Passes.{PassView, caller, seen_by, made_by}
 
 -- what a pass did, in the order of a history
@@ -60,9 +60,4 @@ pub record HasRun (own : List TraceLine) (pass : PassView) (owed : ℕ) : Type 0
 
 -- where a line names a line, what its caller's pass did for it comes after what the other's pass did for that one
 abbrev pub AreToldBy : List TraceLine → List PassView → Type 0
-AreToldBy lines passes = (caller place : ℕ) (pass : PassView) (item : Item) (line : TraceLine) (number : ℕ)
-    → slice_get passes caller ≡ Some pass → slice_get (own_by pass) place ≡ Some item
-    → slice_get (lines_of lines caller) place ≡ Some line → line.after ≡ Some number
-    → (teller there : ℕ) (other : PassView) (said : Item) (named : TraceLine)
-    → slice_get passes teller ≡ Some other → slice_get (own_by other) there ≡ Some said
-    → slice_get (lines_of lines teller) there ≡ Some named → named.number ≡ number → ComesAfter said item
+AreToldBy lines passes = ComeAfterNamed (answered_lines (λ place pass. own_by pass) lines 0 passes)
