@@ -13,9 +13,10 @@ use Rattle.trace_reader.specs.Lines.{SoFar}
 use Rattle.text_lexer.specs.Lines.{input_limit, is_newline, raw_lines}
 use Rattle.text_lexer.proofs.Beginnings.{lines_leave-front}
 use Rattle.output.specs.declared.input.TheConstants.{TEXT_LIMIT}
-use Rattle.output.specs.Input.{CheckInput, mark_from, plain_line, plain_trace_of, line_at, after_trace, with_given, parted, input_of, check_limit}
+use Rattle.output.specs.Input.{CheckInput, plain_line, plain_trace_of, line_at, after_trace, with_given, parted, input_of, check_limit}
 use Rattle.output.proofs.Inputs.{plain_line-limited, plain_within}
-use Rattle.output.proofs.Marks.{seen_in, mark_front, mark_within}
+use Rattle.output.proofs.MarkLines.{input_parted}
+use Rattle.output.proofs.Marks.{mark_from, seen_in, mark_front, mark_within}
 
 -- one byte more than the limit of a trace settles what is read where no line may fork
 plain_front : (bytes : List ℕ) → plain_trace_of (take (input_limit + 1) bytes) ≡ plain_trace_of bytes
@@ -104,10 +105,10 @@ missing bytes =
 
 -- one byte more than the limit settles what an input is, or which line is bad first
 pub input_of-front : (bytes : List ℕ) → input_of (take (check_limit + 1) bytes) ≡ input_of bytes
-unfolding input_of
 input_of-front bytes =
-    ap (λ (place : Option ℕ). parted place (take (check_limit + 1) bytes)) (mark_front (check_limit + 1) true bytes)
-    ∙ by_place (mark_from true bytes) (mark_within true bytes)
+    input_parted (take (check_limit + 1) bytes)
+    ∙ ap (λ (place : Option ℕ). parted place (take (check_limit + 1) bytes)) (mark_front (check_limit + 1) true bytes)
+    ∙ by_place (mark_from true bytes) (mark_within true bytes) ∙ sym (input_parted bytes)
   where
     by_place : (place : Option ℕ) → IfSome place (λ n. n + 3 ≤ length bytes)
         → parted (seen_in (check_limit + 1) place) (take (check_limit + 1) bytes) ≡ parted place bytes

@@ -19,9 +19,11 @@ use Rattle.text_lexer.proofs.Beginnings.{IsLimited, lines_leave-within}
 use Rattle.text_lexer.proofs.LineTests.{text_within-past}
 use Rattle.trace_reader.proofs.TraceValues.{trace_of-value}
 use Rattle.output.specs.declared.input.TheConstants.{TEXT_LIMIT}
-use Rattle.output.specs.Input.{CheckInput, mark_from, plain_line, plain_trace_of, line_at, after_trace, with_given, parted, input_of, check_limit}
+use Rattle.output.specs.Input.{CheckInput, plain_line, plain_trace_of, line_at, after_trace, with_given, parted, input_of, check_limit}
 use Rattle.history.specs.Parents.{parent_trace}
 use Rattle.history.proofs.OneSpace.{none_forked}
+use Rattle.output.proofs.Marks.{mark_from}
+use Rattle.output.proofs.MarkLines.{input_parted}
 use Rattle.output.proofs.Children.{none_read, plain_good}
 
 -- the lines of a trace are limited
@@ -86,8 +88,7 @@ parted_within None bytes input is =
 
 -- an input has no byte past the limit
 pub input_within : (bytes : List ℕ) (input : CheckInput) → input_of bytes ≡ Ok input → length bytes ≤ check_limit
-unfolding input_of
-input_within bytes input is = parted_within (mark_from true bytes) bytes input is
+input_within bytes input is = parted_within (mark_from true bytes) bytes input (sym (input_parted bytes) ∙ is)
 
 given_trace : (place : ℕ) (bytes : List ℕ) (trace : Trace) (input : CheckInput) → with_given place bytes trace ≡ Ok input → trace ≡ input.trace
 given_trace place bytes trace input = cond_both (nat_lt TEXT_LIMIT (length (drop (place + 3) bytes)))
@@ -111,8 +112,7 @@ parted_value None bytes input is =
 
 -- the trace of an input is one that can be read
 pub input_value : (bytes : List ℕ) (input : CheckInput) → input_of bytes ≡ Ok input → IsTraceValue input.trace
-unfolding input_of
-input_value bytes input is = parted_value (mark_from true bytes) bytes input is
+input_value bytes input is = parted_value (mark_from true bytes) bytes input (sym (input_parted bytes) ∙ is)
 
 parted_alone : (found : Option ℕ) (bytes : List ℕ) (input : CheckInput) → parted found bytes ≡ Ok input → children_of input.trace.lines ≡ []
 parted_alone (Some place) bytes input is =
@@ -126,13 +126,12 @@ parted_alone None bytes input is =
 
 -- no line of it forks, so that all lines are the parent's
 pub input_parent : (bytes : List ℕ) (input : CheckInput) → input_of bytes ≡ Ok input → parent_trace input.trace ≡ input.trace
-unfolding input_of
 input_parent bytes input is =
     ap (λ (lines : List TraceLine). record input.trace { lines = lines })
-    (none_forked input.trace.lines (parted_alone (mark_from true bytes) bytes input is))
+    (none_forked input.trace.lines (parted_alone (mark_from true bytes) bytes input (sym (input_parted bytes) ∙ is)))
 
 -- no bytes are no trace: line 1 is no header
 pub empty_input : (bytes : List ℕ) → length bytes ≡ 0 → input_of bytes ≡ Err (bad_line 1 Header)
-unfolding input_of plain_trace_of
-empty_input [] none = refl
+unfolding plain_trace_of
+empty_input [] none = input_parted []
 empty_input (first ∷ bytes) none = absurd (omega (arith, none))

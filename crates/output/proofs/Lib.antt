@@ -5,6 +5,7 @@ pub mod Fronts
 pub mod Inputs
 mod InputsRead
 mod Marks
+mod MarkLines
 pub mod TextLines
 pub mod Plain
 pub mod ItemLines

@@ -1,5 +1,5 @@
--- For `mark_of` and `front_is_enough`: where the first line that is `==` stands.
-use Rattle.std.proofs.Common.{◌≡◌, ℕ, zero, suc, ◌+◌, ◌-◌, ◌<◌, ◌≤◌, Bool, true, false, not, ◌&&◌, nat_eq, nat_le, nat_lt, cond, if◌then◌else◌, List, [], ◌∷◌, length, take, drop, Option, Some, None, IfSome, position, refl, sym, ap, subst, ◌∙◌, inl, inr, arith}
+-- For `mark_of` and `front_is_enough`: where the first line that is `==` stands, byte by byte.
+use Rattle.std.proofs.Common.{◌≡◌, ℕ, zero, suc, ◌+◌, ◌-◌, ◌<◌, ◌≤◌, Bool, true, false, not, ◌&&◌, nat_eq, nat_le, nat_lt, cond, if◌then◌else◌, List, [], ◌∷◌, length, take, drop, codes, Option, Some, None, IfSome, position, refl, sym, ap, subst, ◌∙◌, inl, inr, arith}
 use Rattle.std.specs.Cmp.Lexicographic.{pointwise}
 use Rattle.std.specs.List.{position_or_len, starts_with}
 use Rattle.std.specs.Prelude.{option_map}
@@ -8,11 +8,19 @@ use Rattle.std.proofs.lemmas.List.{length-drop, length-take, take-take, drop_all
 use Rattle.std.proofs.lemmas.Slice.Eq.{slice_eq-Decides}
 use Rattle.std.proofs.lemmas.Bool.Decides.{Decides-eqb}
 use Rattle.text_lexer.specs.Lines.{is_newline}
-use Rattle.output.specs.Input.{mark, mark_from}
+
+-- the line behind a trace, with its newline
+abbrev pub mark : List ℕ
+mark = codes "==\n"
 
 -- whether bytes begin with the mark
 abbrev pub begins_mark : List ℕ → Bool
 begins_mark bytes = starts_with nat_eq bytes mark
+
+-- the offset of the first line that is the mark, where the first byte begins a line or not
+abbrev pub mark_from : Bool → List ℕ → Option ℕ
+mark_from begins [] = None
+mark_from begins (c ∷ bytes) = if begins && begins_mark (c ∷ bytes) then Some 0 else option_map suc (mark_from (is_newline c) bytes)
 
 -- bytes that begin with the mark are three at least
 pub marked_long : (bytes : List ℕ) → begins_mark bytes ≡ true → 3 ≤ length bytes

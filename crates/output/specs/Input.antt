@@ -1,6 +1,5 @@
 -- What a check reads: a trace, a line `==`, and the text behind it that is judged.
-use Rattle.std.specs.Prelude.{ℕ, suc, ◌+◌, Bool, true, ◌&&◌, List, [], ◌∷◌, length, take, drop, codes, count_by, nat_eq, nat_lt, Option, Some, None, option_map, Result, Ok, Err, if◌then◌else◌}
-use Rattle.std.specs.List.{starts_with}
+use Rattle.std.specs.Prelude.{ℕ, ◌+◌, Bool, ◌&&◌, List, length, take, drop, codes, bytes_eq, count_by, find, nat_eq, nat_lt, Option, Some, None, option_map, Result, Ok, Err, if◌then◌else◌}
 use Rattle.text_lexer.specs.declared.error.Cause.{Cause}
 use Rattle.text_lexer.specs.declared.error.Cause.TheVariants.{Header, TooLong, NoEnd, Child}
 use Rattle.text_lexer.specs.declared.error.BadLine.{BadLine}
@@ -17,15 +16,13 @@ pub record CheckInput : Type 0 where
   pub trace : Trace
   pub given : List ℕ
 
--- the line behind a trace, with its newline
-abbrev pub mark : List ℕ
-mark = codes "==\n"
+-- the line behind a trace: `==`, and it ends
+abbrev pub is_mark : RawLine → Bool
+is_mark line = line.ended && bytes_eq line.text (codes "==")
 
--- the offset of the first line that is `==` and ends, where the first byte begins a line or not
-abbrev pub mark_from : Bool → List ℕ → Option ℕ
-mark_from begins [] = None
-mark_from begins (c ∷ bytes) = if begins && starts_with nat_eq (c ∷ bytes) mark then Some 0
-    else option_map suc (mark_from (is_newline c) bytes)
+-- the offset of the first such line
+abbrev pub mark_offset : List ℕ → Option ℕ
+mark_offset bytes = option_map (λ line. line.start) (find is_mark (raw_lines bytes))
 
 -- what a line of a trace does where none may fork
 unfoldable pub plain_line : SoFar → RawLine → Result SoFar Cause
@@ -58,7 +55,7 @@ parted None bytes = after_trace (plain_trace_of bytes) (λ trace. Err (bad_line 
 
 -- the trace and the text that bytes are, or the first bad line and its cause
 unfoldable pub input_of : List ℕ → Result CheckInput BadLine
-input_of bytes = parted (mark_from true bytes) bytes
+input_of bytes = parted (mark_offset bytes) bytes
 
 -- how many bytes an input may have: those of a trace, the mark and a text
 unfoldable pub check_limit : ℕ

@@ -1,5 +1,5 @@
 //! The trace and the text that the bytes of a check are.
-ghost use Rattle.std.specs.Prelude.{◌≡◌, ◌+◌, ◌≤◌, true, length, Err, IfSome, IsErrOf, Result};
+ghost use Rattle.std.specs.Prelude.{◌≡◌, ◌+◌, ◌≤◌, length, Err, IfSome, IsErrOf, Result};
 ghost use Rattle.text_lexer.specs.declared.error.Cause.TheVariants.{Header};
 ghost use Rattle.text_lexer.specs.BadLines.{bad_line};
 ghost use Rattle.text_lexer.specs.Reading.{IsErrorOf};
@@ -8,7 +8,7 @@ ghost use Rattle.trace_reader.specs.Reading.{GivesTrace};
 ghost use Rattle.text_lexer.specs.declared.error.BadLine.{BadLine};
 ghost use Rattle.trace_reader.specs.declared.trace.Trace.{Trace};
 ghost use Rattle.output.specs.Internal.Forks.{without_forks};
-ghost use Rattle.output.specs.Input.{after_trace, input_of, line_at, mark_from, plain_trace_of, with_given};
+ghost use Rattle.output.specs.Input.{after_trace, input_of, line_at, mark_offset, plain_trace_of, with_given};
 ghost use Rattle.output.specs.Reading.{GivesInput};
 
 use crate::forks::first_fork;
@@ -82,7 +82,7 @@ fn without_mark(trace: Result<Trace, ReadError>, bytes: &[u8]) -> ReadError
 
 /// The offset of the first line that is `==` and ends.
 fn mark_of(bytes: &[u8]) -> Option<usize>
-    ensures place { result ≡ mark_from true bytes.now }
+    ensures place { result ≡ mark_offset bytes.now }
     ensures within { IfSome result (λ place. place + 3 ≤ length bytes.now) }
 {
     let mut rest = bytes;

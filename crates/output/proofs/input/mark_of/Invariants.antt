@@ -1,7 +1,6 @@
 -- For `mark_of`: what its loop keeps.
 use Rattle.std.proofs.Common.{◌≡◌, ◌-◌, ◌≤◌, true, length}
-use Rattle.output.specs.Input.{mark_from}
-use Rattle.output.proofs.Marks.{behind}
+use Rattle.output.proofs.Marks.{behind, mark_from}
 use Rattle.output.proofs.input.mark_of.Given as goal
 
 -- a line begins here, and the mark of the bytes that are left is the first of all
