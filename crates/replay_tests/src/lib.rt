@@ -4,11 +4,13 @@
 //! nor when a gate is told of a line: gates that wait for others show it. How long the pieces are that move from the source and to the
 //! sink, and that a sink may take a part of one, stands in no clause either. And `check` and its like answer for a history that is a value,
 //! which no input of the program is: right ones and changed ones are judged here once, by hand, of generated traces, and of 2,000 drawn ones
-//! whose threads give way to one another.
+//! whose threads give way to one another. And `drive` and `in_order`, which no program calls, run a trace over spaces that are opened here.
 #![tactic(auto)]
 
 #[cfg(test)]
 mod by_hand;
+#[cfg(test)]
+mod driving_tests;
 #[cfg(test)]
 mod failure_tests;
 #[cfg(test)]
