@@ -7,6 +7,8 @@ import subprocess
 import sys
 import tempfile
 import unittest
+from dataclasses import replace
+from itertools import pairwise
 from pathlib import Path
 from unittest import mock
 
@@ -217,6 +219,15 @@ class Pages(unittest.TestCase):
             kernel, found = vectors.read(path)
             self.assertEqual(versions.text_of(kernel.version), path.parent.name)
             self.assertEqual(vectors.written(kernel, found), path.read_bytes())
+
+    def test_directed_traces_tell_each_version_from_the_one_before(self) -> None:
+        """By what the version itself was recorded to answer: the rules of the one before give another answer to one of them."""
+        for before, version in pairwise(versions.table()):
+            kernel, found = vectors.read(TOP / "suite/vectors" / versions.text_of(version) / vectors.FILE)
+            older = oracles.Oracle(replace(kernel, version=before, rules=versions.table()[before]))
+            asked = [(traces.read_trace(one.trace.encode()), one.answer) for one in found if vectors.is_directed(one.name)]
+            told = [trace for trace, answer in asked if not older.gap(trace) and older.output(trace) != answer]
+            self.assertTrue(told, versions.text_of(version))
 
     def test_recorded_traces_are_asked_again(self) -> None:
         """Each once, whichever version has it, and no others where they are enough."""
