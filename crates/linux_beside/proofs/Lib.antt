@@ -4,6 +4,7 @@ mod Rows3
 mod Rows4
 mod Rows5
 mod Rows6
+mod Rows7
 mod JoinLemmas
 mod OrderLemmas
 mod SplitLemmas

@@ -10,6 +10,7 @@ all_rows1 = record {
   border_gap = record { profile = refl; linux_6_1 = refl; linux_6_12 = refl; linux_6_16 = refl; linux_6_17 = refl; linux_6_18_15 = refl; linux_6_18 = refl; linux_7_2 = refl };
   border_between = record { profile = refl; linux_6_1 = refl; linux_6_12 = refl; linux_6_16 = refl; linux_6_17 = refl; linux_6_18_15 = refl; linux_6_18 = refl; linux_7_2 = refl };
   border_moved = record { profile = refl; linux_6_1 = refl; linux_6_12 = refl; linux_6_16 = refl; linux_6_17 = refl; linux_6_18_15 = refl; linux_6_18 = refl; linux_7_2 = refl };
+  border_moved_back = record { profile = refl; linux_6_1 = refl; linux_6_12 = refl; linux_6_16 = refl; linux_6_17 = refl; linux_6_18_15 = refl; linux_6_18 = refl; linux_7_2 = refl };
   border_stack = record { profile = refl; linux_6_1 = refl; linux_6_12 = refl; linux_6_16 = refl; linux_6_17 = refl; linux_6_18_15 = refl; linux_6_18 = refl; linux_7_2 = refl };
   border_noreserve = record { profile = refl; linux_6_1 = refl; linux_6_12 = refl; linux_6_16 = refl; linux_6_17 = refl; linux_6_18_15 = refl; linux_6_18 = refl; linux_7_2 = refl };
   border_populate = record { profile = refl; linux_6_1 = refl; linux_6_12 = refl; linux_6_16 = refl; linux_6_17 = refl; linux_6_18_15 = refl; linux_6_18 = refl; linux_7_2 = refl };
@@ -18,7 +19,6 @@ all_rows1 = record {
   aligned_file = record { profile = refl; linux_6_1 = refl; linux_6_12 = refl; linux_6_16 = refl; linux_6_17 = refl; linux_6_18_15 = refl; linux_6_18 = refl; linux_7_2 = refl };
   aligned_file_moved = record { profile = refl; linux_6_1 = refl; linux_6_12 = refl; linux_6_16 = refl; linux_6_17 = refl; linux_6_18_15 = refl; linux_6_18 = refl; linux_7_2 = refl };
   aligned_moved = record { profile = refl; linux_6_1 = refl; linux_6_12 = refl; linux_6_16 = refl; linux_6_17 = refl; linux_6_18_15 = refl; linux_6_18 = refl; linux_7_2 = refl };
-  overcommit = record { linux_6_1 = refl; linux_6_12 = refl; linux_6_16 = refl; linux_6_17 = refl; linux_6_18_15 = refl; linux_6_18 = refl; linux_7_2 = refl };
-  overcommit_mprotect = record { linux_6_1 = refl; linux_6_12 = refl; linux_6_16 = refl; linux_6_17 = refl; linux_6_18_15 = refl; linux_6_18 = refl; linux_7_2 = refl };
-  overcommit_brk = record { linux_6_1 = refl; linux_6_12 = refl; linux_6_16 = refl; linux_6_17 = refl; linux_6_18_15 = refl; linux_6_18 = refl; linux_7_2 = refl };
+  aligned_shared = record { profile = refl; linux_6_1 = refl; linux_6_12 = refl; linux_6_16 = refl; linux_6_17 = refl; linux_6_18_15 = refl; linux_6_18 = refl; linux_7_2 = refl };
+  aligned_file_in_memory = record { profile = refl; linux_6_1 = refl; linux_6_12 = refl; linux_6_16 = refl; linux_6_17 = refl; linux_6_18_15 = refl; linux_6_18 = refl; linux_7_2 = refl };
 }

@@ -5,6 +5,7 @@ pub mod Rows3
 pub mod Rows4
 pub mod Rows5
 pub mod Rows6
+pub mod Rows7
 pub mod Forgetting
 pub mod InOrder
 pub mod Faulting

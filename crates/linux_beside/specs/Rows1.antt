@@ -2,7 +2,7 @@
 use Rattle.std.specs.Prelude.{List, ◌∷◌, [], true, false, pos, negsuc, Some, None, Ok, Err}
 use Rattle.mm_types.specs.declared.area.Access.TheVariants.{Write}
 use Rattle.linux_rules.specs.Versions.{linux_6_1, linux_6_12, linux_6_16, linux_6_17, linux_6_18_15, linux_6_18, linux_7_2}
-use Rattle.linux_rules.specs.Steps.{Map, Protect, Remap, Break, Touch, Returned, Serves, Step, r, rw, plain, filed, kernel_step, file_row, config}
+use Rattle.linux_rules.specs.Steps.{Map, Protect, Remap, Touch, Returned, Serves, Step, r, rw, plain, filed, kernel_step, file_row, config}
 use Rattle.linux_rules.specs.Recorded.{IsAsRecorded}
 use Rattle.linux_beside.specs.Sides.{IsByProfile, on_the_machine}
 
@@ -162,6 +162,37 @@ pub record BorderMoved : Type 0 where
   pub linux_6_18_15 : IsAsRecorded (on_the_machine linux_6_18_15 false (config 4096 140737354133504 65530 0 ([]))) border_moved_by_linux
   pub linux_6_18 : IsAsRecorded (on_the_machine linux_6_18 false (config 4096 140737354133504 65530 0 ([]))) border_moved_by_linux
   pub linux_7_2 : IsAsRecorded (on_the_machine linux_7_2 false (config 4096 140737354133504 65530 0 ([]))) border_moved_by_linux
+
+-- border_moved_back
+abbrev pub border_moved_back_by_profile : List Step
+border_moved_back_by_profile =
+    kernel_step 0 (Map 1052672 4096 rw 50 (negsuc 0) 0) (Ok (Returned 1052672)) None
+    ∷ kernel_step 0 (Map 1048576 4096 rw 50 (negsuc 0) 0) (Ok (Returned 1048576)) None
+    ∷ kernel_step 0 (Touch 257 Write) (Ok (Serves 256 258 rw false 0)) None
+    ∷ kernel_step 0 (Remap 1052672 4096 4096 3 2097152) (Ok (Returned 2097152)) None
+    ∷ kernel_step 0 (Remap 2097152 4096 4096 3 1052672) (Ok (Returned 1052672)) (Some (plain 256 258 rw ∷ []))
+    ∷ []
+
+-- border_moved_back
+abbrev pub border_moved_back_by_linux : List Step
+border_moved_back_by_linux =
+    kernel_step 0 (Map 1052672 4096 rw 50 (negsuc 0) 0) (Ok (Returned 1052672)) None
+    ∷ kernel_step 0 (Map 1048576 4096 rw 50 (negsuc 0) 0) (Ok (Returned 1048576)) None
+    ∷ kernel_step 0 (Touch 257 Write) (Ok (Serves 256 258 rw false 0)) None
+    ∷ kernel_step 0 (Remap 1052672 4096 4096 3 2097152) (Ok (Returned 2097152)) None
+    ∷ kernel_step 0 (Remap 2097152 4096 4096 3 1052672) (Ok (Returned 1052672)) (Some (plain 256 258 rw ∷ []))
+    ∷ []
+
+-- border_moved_back: what the profile answers, and Linux
+pub record BorderMovedBack : Type 0 where
+  pub profile : IsByProfile (config 65536 140737354133504 65530 0 ([])) border_moved_back_by_profile
+  pub linux_6_1 : IsAsRecorded (on_the_machine linux_6_1 false (config 4096 140737354133504 65530 0 ([]))) border_moved_back_by_profile
+  pub linux_6_12 : IsAsRecorded (on_the_machine linux_6_12 false (config 4096 140737354133504 65530 0 ([]))) border_moved_back_by_profile
+  pub linux_6_16 : IsAsRecorded (on_the_machine linux_6_16 false (config 4096 140737354133504 65530 0 ([]))) border_moved_back_by_profile
+  pub linux_6_17 : IsAsRecorded (on_the_machine linux_6_17 false (config 4096 140737354133504 65530 0 ([]))) border_moved_back_by_profile
+  pub linux_6_18_15 : IsAsRecorded (on_the_machine linux_6_18_15 false (config 4096 140737354133504 65530 0 ([]))) border_moved_back_by_profile
+  pub linux_6_18 : IsAsRecorded (on_the_machine linux_6_18 false (config 4096 140737354133504 65530 0 ([]))) border_moved_back_by_profile
+  pub linux_7_2 : IsAsRecorded (on_the_machine linux_7_2 false (config 4096 140737354133504 65530 0 ([]))) border_moved_back_by_profile
 
 -- border_stack
 abbrev pub border_stack_by_profile : List Step
@@ -401,61 +432,55 @@ pub record AlignedMoved : Type 0 where
   pub linux_6_18 : IsAsRecorded (on_the_machine linux_6_18 false (config 4096 140737354133504 65530 0 ([]))) aligned_moved_by_linux
   pub linux_7_2 : IsAsRecorded (on_the_machine linux_7_2 false (config 4096 140737354133504 65530 0 ([]))) aligned_moved_by_linux
 
--- overcommit
-abbrev pub overcommit_by_linux : List Step
-overcommit_by_linux =
-    kernel_step 0 (Map 0 17592186044416 rw 34 (negsuc 0) 0) (Err 12) (Some ([]))
+-- aligned_shared
+abbrev pub aligned_shared_by_profile : List Step
+aligned_shared_by_profile =
+    kernel_step 0 (Map 0 4096 r 34 (negsuc 0) 0) (Ok (Returned 140737354129408)) None
+    ∷ kernel_step 0 (Map 0 2097152 rw 33 (negsuc 0) 0) (Ok (Returned 140737352032256)) (Some (filed 34359705086 34359705598 rw true 0 1 ∷ plain 34359705598 34359705599 r ∷ []))
     ∷ []
 
--- overcommit: what the profile answers, and Linux
-pub record Overcommit : Type 0 where
-  pub linux_6_1 : IsAsRecorded (on_the_machine linux_6_1 false (config 4096 140737354133504 65530 0 ([]))) overcommit_by_linux
-  pub linux_6_12 : IsAsRecorded (on_the_machine linux_6_12 false (config 4096 140737354133504 65530 0 ([]))) overcommit_by_linux
-  pub linux_6_16 : IsAsRecorded (on_the_machine linux_6_16 false (config 4096 140737354133504 65530 0 ([]))) overcommit_by_linux
-  pub linux_6_17 : IsAsRecorded (on_the_machine linux_6_17 false (config 4096 140737354133504 65530 0 ([]))) overcommit_by_linux
-  pub linux_6_18_15 : IsAsRecorded (on_the_machine linux_6_18_15 false (config 4096 140737354133504 65530 0 ([]))) overcommit_by_linux
-  pub linux_6_18 : IsAsRecorded (on_the_machine linux_6_18 false (config 4096 140737354133504 65530 0 ([]))) overcommit_by_linux
-  pub linux_7_2 : IsAsRecorded (on_the_machine linux_7_2 false (config 4096 140737354133504 65530 0 ([]))) overcommit_by_linux
-
--- overcommit_mprotect
-abbrev pub overcommit_mprotect_by_linux : List Step
-overcommit_mprotect_by_linux =
-    kernel_step 0 (Map 0 17592186044416 r 34 (negsuc 0) 0) (Ok (Returned 123145165996032)) None
-    ∷ kernel_step 0 (Protect 123145168089088 17592186044416 rw) (Err 12) (Some (plain 30064737792 34359705088 r ∷ []))
+-- aligned_shared
+abbrev pub aligned_shared_by_linux : List Step
+aligned_shared_by_linux =
+    kernel_step 0 (Map 0 4096 r 34 (negsuc 0) 0) (Ok (Returned 140737354129408)) None
+    ∷ kernel_step 0 (Map 0 2097152 rw 33 (negsuc 0) 0) (Ok (Returned 140737352032256)) (Some (filed 34359705086 34359705598 rw true 0 1 ∷ plain 34359705598 34359705599 r ∷ []))
     ∷ []
 
--- overcommit_mprotect
-abbrev pub overcommit_mprotect_by_linux_6_1 : List Step
-overcommit_mprotect_by_linux_6_1 =
-    kernel_step 0 (Map 0 17592186044416 r 34 (negsuc 0) 0) (Ok (Returned 123145168089088)) None
-    ∷ kernel_step 0 (Protect 123145168089088 17592186044416 rw) (Err 12) (Some (plain 30064738303 34359705599 r ∷ []))
+-- aligned_shared: what the profile answers, and Linux
+pub record AlignedShared : Type 0 where
+  pub profile : IsByProfile (config 65536 140737354133504 65530 0 ([])) aligned_shared_by_profile
+  pub linux_6_1 : IsAsRecorded (on_the_machine linux_6_1 false (config 4096 140737354133504 65530 0 ([]))) aligned_shared_by_profile
+  pub linux_6_12 : IsAsRecorded (on_the_machine linux_6_12 false (config 4096 140737354133504 65530 0 ([]))) aligned_shared_by_profile
+  pub linux_6_16 : IsAsRecorded (on_the_machine linux_6_16 false (config 4096 140737354133504 65530 0 ([]))) aligned_shared_by_profile
+  pub linux_6_17 : IsAsRecorded (on_the_machine linux_6_17 false (config 4096 140737354133504 65530 0 ([]))) aligned_shared_by_profile
+  pub linux_6_18_15 : IsAsRecorded (on_the_machine linux_6_18_15 false (config 4096 140737354133504 65530 0 ([]))) aligned_shared_by_profile
+  pub linux_6_18 : IsAsRecorded (on_the_machine linux_6_18 false (config 4096 140737354133504 65530 0 ([]))) aligned_shared_by_profile
+  pub linux_7_2 : IsAsRecorded (on_the_machine linux_7_2 false (config 4096 140737354133504 65530 0 ([]))) aligned_shared_by_profile
+
+-- aligned_file_in_memory
+abbrev pub aligned_file_in_memory_by_profile : List Step
+aligned_file_in_memory_by_profile =
+    kernel_step 0 (Map 0 4096 r 34 (negsuc 0) 0) (Ok (Returned 140737354129408)) None
+    ∷ kernel_step 0 (Map 0 2097152 r 2 (pos 3) 0) (Ok (Returned 140737352032256)) (Some (filed 34359705086 34359705598 r false 0 1 ∷ plain 34359705598 34359705599 r ∷ []))
     ∷ []
 
--- overcommit_mprotect: what the profile answers, and Linux
-pub record OvercommitMprotect : Type 0 where
-  pub linux_6_1 : IsAsRecorded (on_the_machine linux_6_1 false (config 4096 140737354133504 65530 0 ([]))) overcommit_mprotect_by_linux_6_1
-  pub linux_6_12 : IsAsRecorded (on_the_machine linux_6_12 false (config 4096 140737354133504 65530 0 ([]))) overcommit_mprotect_by_linux
-  pub linux_6_16 : IsAsRecorded (on_the_machine linux_6_16 false (config 4096 140737354133504 65530 0 ([]))) overcommit_mprotect_by_linux
-  pub linux_6_17 : IsAsRecorded (on_the_machine linux_6_17 false (config 4096 140737354133504 65530 0 ([]))) overcommit_mprotect_by_linux
-  pub linux_6_18_15 : IsAsRecorded (on_the_machine linux_6_18_15 false (config 4096 140737354133504 65530 0 ([]))) overcommit_mprotect_by_linux
-  pub linux_6_18 : IsAsRecorded (on_the_machine linux_6_18 false (config 4096 140737354133504 65530 0 ([]))) overcommit_mprotect_by_linux
-  pub linux_7_2 : IsAsRecorded (on_the_machine linux_7_2 false (config 4096 140737354133504 65530 0 ([]))) overcommit_mprotect_by_linux
-
--- overcommit_brk
-abbrev pub overcommit_brk_by_linux : List Step
-overcommit_brk_by_linux =
-    kernel_step 0 (Break 70368745226240) (Ok (Returned 1048576)) (Some ([]))
+-- aligned_file_in_memory
+abbrev pub aligned_file_in_memory_by_linux : List Step
+aligned_file_in_memory_by_linux =
+    kernel_step 0 (Map 0 4096 r 34 (negsuc 0) 0) (Ok (Returned 140737354129408)) None
+    ∷ kernel_step 0 (Map 0 2097152 r 2 (pos 3) 0) (Ok (Returned 140737352032256)) (Some (filed 34359705086 34359705598 r false 0 1 ∷ plain 34359705598 34359705599 r ∷ []))
     ∷ []
 
--- overcommit_brk: what the profile answers, and Linux
-pub record OvercommitBrk : Type 0 where
-  pub linux_6_1 : IsAsRecorded (on_the_machine linux_6_1 false (config 4096 140737354133504 65530 1048576 ([]))) overcommit_brk_by_linux
-  pub linux_6_12 : IsAsRecorded (on_the_machine linux_6_12 false (config 4096 140737354133504 65530 1048576 ([]))) overcommit_brk_by_linux
-  pub linux_6_16 : IsAsRecorded (on_the_machine linux_6_16 false (config 4096 140737354133504 65530 1048576 ([]))) overcommit_brk_by_linux
-  pub linux_6_17 : IsAsRecorded (on_the_machine linux_6_17 false (config 4096 140737354133504 65530 1048576 ([]))) overcommit_brk_by_linux
-  pub linux_6_18_15 : IsAsRecorded (on_the_machine linux_6_18_15 false (config 4096 140737354133504 65530 1048576 ([]))) overcommit_brk_by_linux
-  pub linux_6_18 : IsAsRecorded (on_the_machine linux_6_18 false (config 4096 140737354133504 65530 1048576 ([]))) overcommit_brk_by_linux
-  pub linux_7_2 : IsAsRecorded (on_the_machine linux_7_2 false (config 4096 140737354133504 65530 1048576 ([]))) overcommit_brk_by_linux
+-- aligned_file_in_memory: what the profile answers, and Linux
+pub record AlignedFileInMemory : Type 0 where
+  pub profile : IsByProfile (config 65536 140737354133504 65530 0 (file_row 3 true false 2097152 ∷ [])) aligned_file_in_memory_by_profile
+  pub linux_6_1 : IsAsRecorded (on_the_machine linux_6_1 false (config 4096 140737354133504 65530 0 (file_row 3 true false 2097152 ∷ []))) aligned_file_in_memory_by_profile
+  pub linux_6_12 : IsAsRecorded (on_the_machine linux_6_12 false (config 4096 140737354133504 65530 0 (file_row 3 true false 2097152 ∷ []))) aligned_file_in_memory_by_profile
+  pub linux_6_16 : IsAsRecorded (on_the_machine linux_6_16 false (config 4096 140737354133504 65530 0 (file_row 3 true false 2097152 ∷ []))) aligned_file_in_memory_by_profile
+  pub linux_6_17 : IsAsRecorded (on_the_machine linux_6_17 false (config 4096 140737354133504 65530 0 (file_row 3 true false 2097152 ∷ []))) aligned_file_in_memory_by_profile
+  pub linux_6_18_15 : IsAsRecorded (on_the_machine linux_6_18_15 false (config 4096 140737354133504 65530 0 (file_row 3 true false 2097152 ∷ []))) aligned_file_in_memory_by_profile
+  pub linux_6_18 : IsAsRecorded (on_the_machine linux_6_18 false (config 4096 140737354133504 65530 0 (file_row 3 true false 2097152 ∷ []))) aligned_file_in_memory_by_profile
+  pub linux_7_2 : IsAsRecorded (on_the_machine linux_7_2 false (config 4096 140737354133504 65530 0 (file_row 3 true false 2097152 ∷ []))) aligned_file_in_memory_by_profile
 
 -- all rows of this file
 pub record AllRows1 : Type 0 where
@@ -464,6 +489,7 @@ pub record AllRows1 : Type 0 where
   pub border_gap : BorderGap
   pub border_between : BorderBetween
   pub border_moved : BorderMoved
+  pub border_moved_back : BorderMovedBack
   pub border_stack : BorderStack
   pub border_noreserve : BorderNoreserve
   pub border_populate : BorderPopulate
@@ -472,6 +498,5 @@ pub record AllRows1 : Type 0 where
   pub aligned_file : AlignedFile
   pub aligned_file_moved : AlignedFileMoved
   pub aligned_moved : AlignedMoved
-  pub overcommit : Overcommit
-  pub overcommit_mprotect : OvercommitMprotect
-  pub overcommit_brk : OvercommitBrk
+  pub aligned_shared : AlignedShared
+  pub aligned_file_in_memory : AlignedFileInMemory

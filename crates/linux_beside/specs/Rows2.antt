@@ -1,9 +1,65 @@
 -- Rows of docs/KERNEL.md. Made by dev/make-linux-rules from examples/kernel-rows.txt.
 use Rattle.std.specs.Prelude.{List, ◌∷◌, [], true, false, pos, negsuc, Some, None, Ok, Err}
 use Rattle.linux_rules.specs.Versions.{linux_6_1, linux_6_12, linux_6_16, linux_6_17, linux_6_18_15, linux_6_18, linux_7_2}
-use Rattle.linux_rules.specs.Steps.{Map, Remap, Returned, Step, r, rw, plain, filed, kernel_step, file_row, config}
+use Rattle.linux_rules.specs.Steps.{Map, Protect, Remap, Break, Returned, Step, r, rw, plain, filed, kernel_step, file_row, config}
 use Rattle.linux_rules.specs.Recorded.{IsAsRecorded}
 use Rattle.linux_beside.specs.Sides.{IsByProfile, on_the_machine}
+
+-- overcommit
+abbrev pub overcommit_by_linux : List Step
+overcommit_by_linux =
+    kernel_step 0 (Map 0 17592186044416 rw 34 (negsuc 0) 0) (Err 12) (Some ([]))
+    ∷ []
+
+-- overcommit: what the profile answers, and Linux
+pub record Overcommit : Type 0 where
+  pub linux_6_1 : IsAsRecorded (on_the_machine linux_6_1 false (config 4096 140737354133504 65530 0 ([]))) overcommit_by_linux
+  pub linux_6_12 : IsAsRecorded (on_the_machine linux_6_12 false (config 4096 140737354133504 65530 0 ([]))) overcommit_by_linux
+  pub linux_6_16 : IsAsRecorded (on_the_machine linux_6_16 false (config 4096 140737354133504 65530 0 ([]))) overcommit_by_linux
+  pub linux_6_17 : IsAsRecorded (on_the_machine linux_6_17 false (config 4096 140737354133504 65530 0 ([]))) overcommit_by_linux
+  pub linux_6_18_15 : IsAsRecorded (on_the_machine linux_6_18_15 false (config 4096 140737354133504 65530 0 ([]))) overcommit_by_linux
+  pub linux_6_18 : IsAsRecorded (on_the_machine linux_6_18 false (config 4096 140737354133504 65530 0 ([]))) overcommit_by_linux
+  pub linux_7_2 : IsAsRecorded (on_the_machine linux_7_2 false (config 4096 140737354133504 65530 0 ([]))) overcommit_by_linux
+
+-- overcommit_mprotect
+abbrev pub overcommit_mprotect_by_linux : List Step
+overcommit_mprotect_by_linux =
+    kernel_step 0 (Map 0 17592186044416 r 34 (negsuc 0) 0) (Ok (Returned 123145165996032)) None
+    ∷ kernel_step 0 (Protect 123145168089088 17592186044416 rw) (Err 12) (Some (plain 30064737792 34359705088 r ∷ []))
+    ∷ []
+
+-- overcommit_mprotect
+abbrev pub overcommit_mprotect_by_linux_6_1 : List Step
+overcommit_mprotect_by_linux_6_1 =
+    kernel_step 0 (Map 0 17592186044416 r 34 (negsuc 0) 0) (Ok (Returned 123145168089088)) None
+    ∷ kernel_step 0 (Protect 123145168089088 17592186044416 rw) (Err 12) (Some (plain 30064738303 34359705599 r ∷ []))
+    ∷ []
+
+-- overcommit_mprotect: what the profile answers, and Linux
+pub record OvercommitMprotect : Type 0 where
+  pub linux_6_1 : IsAsRecorded (on_the_machine linux_6_1 false (config 4096 140737354133504 65530 0 ([]))) overcommit_mprotect_by_linux_6_1
+  pub linux_6_12 : IsAsRecorded (on_the_machine linux_6_12 false (config 4096 140737354133504 65530 0 ([]))) overcommit_mprotect_by_linux
+  pub linux_6_16 : IsAsRecorded (on_the_machine linux_6_16 false (config 4096 140737354133504 65530 0 ([]))) overcommit_mprotect_by_linux
+  pub linux_6_17 : IsAsRecorded (on_the_machine linux_6_17 false (config 4096 140737354133504 65530 0 ([]))) overcommit_mprotect_by_linux
+  pub linux_6_18_15 : IsAsRecorded (on_the_machine linux_6_18_15 false (config 4096 140737354133504 65530 0 ([]))) overcommit_mprotect_by_linux
+  pub linux_6_18 : IsAsRecorded (on_the_machine linux_6_18 false (config 4096 140737354133504 65530 0 ([]))) overcommit_mprotect_by_linux
+  pub linux_7_2 : IsAsRecorded (on_the_machine linux_7_2 false (config 4096 140737354133504 65530 0 ([]))) overcommit_mprotect_by_linux
+
+-- overcommit_brk
+abbrev pub overcommit_brk_by_linux : List Step
+overcommit_brk_by_linux =
+    kernel_step 0 (Break 70368745226240) (Ok (Returned 1048576)) (Some ([]))
+    ∷ []
+
+-- overcommit_brk: what the profile answers, and Linux
+pub record OvercommitBrk : Type 0 where
+  pub linux_6_1 : IsAsRecorded (on_the_machine linux_6_1 false (config 4096 140737354133504 65530 1048576 ([]))) overcommit_brk_by_linux
+  pub linux_6_12 : IsAsRecorded (on_the_machine linux_6_12 false (config 4096 140737354133504 65530 1048576 ([]))) overcommit_brk_by_linux
+  pub linux_6_16 : IsAsRecorded (on_the_machine linux_6_16 false (config 4096 140737354133504 65530 1048576 ([]))) overcommit_brk_by_linux
+  pub linux_6_17 : IsAsRecorded (on_the_machine linux_6_17 false (config 4096 140737354133504 65530 1048576 ([]))) overcommit_brk_by_linux
+  pub linux_6_18_15 : IsAsRecorded (on_the_machine linux_6_18_15 false (config 4096 140737354133504 65530 1048576 ([]))) overcommit_brk_by_linux
+  pub linux_6_18 : IsAsRecorded (on_the_machine linux_6_18 false (config 4096 140737354133504 65530 1048576 ([]))) overcommit_brk_by_linux
+  pub linux_7_2 : IsAsRecorded (on_the_machine linux_7_2 false (config 4096 140737354133504 65530 1048576 ([]))) overcommit_brk_by_linux
 
 -- below_min
 abbrev pub below_min_by_profile : List Step
@@ -223,6 +279,31 @@ pub record MremapOldZero : Type 0 where
   pub linux_6_18 : IsAsRecorded (on_the_machine linux_6_18 false (config 4096 140737354133504 65530 0 ([]))) mremap_old_zero_by_linux
   pub linux_7_2 : IsAsRecorded (on_the_machine linux_7_2 false (config 4096 140737354133504 65530 0 ([]))) mremap_old_zero_by_linux
 
+-- mremap_old_zero_private
+abbrev pub mremap_old_zero_private_by_profile : List Step
+mremap_old_zero_private_by_profile =
+    kernel_step 0 (Map 1048576 4096 rw 50 (negsuc 0) 0) (Ok (Returned 1048576)) None
+    ∷ kernel_step 0 (Remap 1048576 0 4096 1 0) (Err 22) (Some (plain 256 257 rw ∷ []))
+    ∷ []
+
+-- mremap_old_zero_private
+abbrev pub mremap_old_zero_private_by_linux : List Step
+mremap_old_zero_private_by_linux =
+    kernel_step 0 (Map 1048576 4096 rw 50 (negsuc 0) 0) (Ok (Returned 1048576)) None
+    ∷ kernel_step 0 (Remap 1048576 0 4096 1 0) (Err 22) (Some (plain 256 257 rw ∷ []))
+    ∷ []
+
+-- mremap_old_zero_private: what the profile answers, and Linux
+pub record MremapOldZeroPrivate : Type 0 where
+  pub profile : IsByProfile (config 65536 140737354133504 65530 0 ([])) mremap_old_zero_private_by_profile
+  pub linux_6_1 : IsAsRecorded (on_the_machine linux_6_1 false (config 4096 140737354133504 65530 0 ([]))) mremap_old_zero_private_by_profile
+  pub linux_6_12 : IsAsRecorded (on_the_machine linux_6_12 false (config 4096 140737354133504 65530 0 ([]))) mremap_old_zero_private_by_profile
+  pub linux_6_16 : IsAsRecorded (on_the_machine linux_6_16 false (config 4096 140737354133504 65530 0 ([]))) mremap_old_zero_private_by_profile
+  pub linux_6_17 : IsAsRecorded (on_the_machine linux_6_17 false (config 4096 140737354133504 65530 0 ([]))) mremap_old_zero_private_by_profile
+  pub linux_6_18_15 : IsAsRecorded (on_the_machine linux_6_18_15 false (config 4096 140737354133504 65530 0 ([]))) mremap_old_zero_private_by_profile
+  pub linux_6_18 : IsAsRecorded (on_the_machine linux_6_18 false (config 4096 140737354133504 65530 0 ([]))) mremap_old_zero_private_by_profile
+  pub linux_7_2 : IsAsRecorded (on_the_machine linux_7_2 false (config 4096 140737354133504 65530 0 ([]))) mremap_old_zero_private_by_profile
+
 -- mremap_old_wraps
 abbrev pub mremap_old_wraps_by_profile : List Step
 mremap_old_wraps_by_profile =
@@ -298,108 +379,11 @@ pub record MremapPastLimitShrinks : Type 0 where
   pub linux_6_18 : IsAsRecorded (on_the_machine linux_6_18 false (config 4096 140737354133504 65530 0 ([]))) mremap_past_limit_shrinks_by_linux
   pub linux_7_2 : IsAsRecorded (on_the_machine linux_7_2 false (config 4096 140737354133504 65530 0 ([]))) mremap_past_limit_shrinks_by_linux
 
--- mremap_several
-abbrev pub mremap_several_by_profile : List Step
-mremap_several_by_profile =
-    kernel_step 0 (Map 1048576 4096 rw 50 (negsuc 0) 0) (Ok (Returned 1048576)) None
-    ∷ kernel_step 0 (Map 1052672 4096 r 50 (negsuc 0) 0) (Ok (Returned 1052672)) None
-    ∷ kernel_step 0 (Remap 1048576 8192 8192 3 2097152) (Err 14) (Some (plain 256 257 rw ∷ plain 257 258 r ∷ []))
-    ∷ []
-
--- mremap_several
-abbrev pub mremap_several_by_linux : List Step
-mremap_several_by_linux =
-    kernel_step 0 (Map 1048576 4096 rw 50 (negsuc 0) 0) (Ok (Returned 1048576)) None
-    ∷ kernel_step 0 (Map 1052672 4096 r 50 (negsuc 0) 0) (Ok (Returned 1052672)) None
-    ∷ kernel_step 0 (Remap 1048576 8192 8192 3 2097152) (Ok (Returned 2097152)) (Some (plain 512 513 rw ∷ plain 513 514 r ∷ []))
-    ∷ []
-
--- mremap_several: what the profile answers, and Linux
-pub record MremapSeveral : Type 0 where
-  pub profile : IsByProfile (config 65536 140737354133504 65530 0 ([])) mremap_several_by_profile
-  pub linux_6_1 : IsAsRecorded (on_the_machine linux_6_1 false (config 4096 140737354133504 65530 0 ([]))) mremap_several_by_profile
-  pub linux_6_12 : IsAsRecorded (on_the_machine linux_6_12 false (config 4096 140737354133504 65530 0 ([]))) mremap_several_by_profile
-  pub linux_6_16 : IsAsRecorded (on_the_machine linux_6_16 false (config 4096 140737354133504 65530 0 ([]))) mremap_several_by_profile
-  pub linux_6_17 : IsAsRecorded (on_the_machine linux_6_17 false (config 4096 140737354133504 65530 0 ([]))) mremap_several_by_linux
-  pub linux_6_18_15 : IsAsRecorded (on_the_machine linux_6_18_15 false (config 4096 140737354133504 65530 0 ([]))) mremap_several_by_linux
-  pub linux_6_18 : IsAsRecorded (on_the_machine linux_6_18 false (config 4096 140737354133504 65530 0 ([]))) mremap_several_by_linux
-  pub linux_7_2 : IsAsRecorded (on_the_machine linux_7_2 false (config 4096 140737354133504 65530 0 ([]))) mremap_several_by_linux
-
--- mremap_cut_first
-abbrev pub mremap_cut_first_by_profile : List Step
-mremap_cut_first_by_profile =
-    kernel_step 0 (Map 1048576 8192 rw 50 (negsuc 0) 0) (Ok (Returned 1048576)) None
-    ∷ kernel_step 0 (Remap 1048576 8192 4096 3 0) (Err 1) (Some (plain 256 258 rw ∷ []))
-    ∷ []
-
--- mremap_cut_first
-abbrev pub mremap_cut_first_by_linux : List Step
-mremap_cut_first_by_linux =
-    kernel_step 0 (Map 1048576 8192 rw 50 (negsuc 0) 0) (Ok (Returned 1048576)) None
-    ∷ kernel_step 0 (Remap 1048576 8192 4096 3 0) (Err 1) (Some (plain 256 257 rw ∷ []))
-    ∷ []
-
--- mremap_cut_first: what the profile answers, and Linux
-pub record MremapCutFirst : Type 0 where
-  pub profile : IsByProfile (config 65536 140737354133504 65530 0 ([])) mremap_cut_first_by_profile
-  pub linux_6_1 : IsAsRecorded (on_the_machine linux_6_1 false (config 4096 140737354133504 65530 0 ([]))) mremap_cut_first_by_linux
-  pub linux_6_12 : IsAsRecorded (on_the_machine linux_6_12 false (config 4096 140737354133504 65530 0 ([]))) mremap_cut_first_by_linux
-  pub linux_6_16 : IsAsRecorded (on_the_machine linux_6_16 false (config 4096 140737354133504 65530 0 ([]))) mremap_cut_first_by_linux
-  pub linux_6_17 : IsAsRecorded (on_the_machine linux_6_17 false (config 4096 140737354133504 65530 0 ([]))) mremap_cut_first_by_linux
-  pub linux_6_18_15 : IsAsRecorded (on_the_machine linux_6_18_15 false (config 4096 140737354133504 65530 0 ([]))) mremap_cut_first_by_linux
-  pub linux_6_18 : IsAsRecorded (on_the_machine linux_6_18 false (config 4096 140737354133504 65530 0 ([]))) mremap_cut_first_by_linux
-  pub linux_7_2 : IsAsRecorded (on_the_machine linux_7_2 false (config 4096 140737354133504 65530 0 ([]))) mremap_cut_first_by_linux
-
--- error_noreplace_access
-abbrev pub error_noreplace_access_by_profile : List Step
-error_noreplace_access_by_profile =
-    kernel_step 0 (Map 1048576 4096 rw 50 (negsuc 0) 0) (Ok (Returned 1048576)) None
-    ∷ kernel_step 0 (Map 1048576 4096 r 1048578 (pos 3) 0) (Err 13) (Some (plain 256 257 rw ∷ []))
-    ∷ []
-
--- error_noreplace_access
-abbrev pub error_noreplace_access_by_linux : List Step
-error_noreplace_access_by_linux =
-    kernel_step 0 (Map 1048576 4096 rw 50 (negsuc 0) 0) (Ok (Returned 1048576)) None
-    ∷ kernel_step 0 (Map 1048576 4096 r 1048578 (pos 3) 0) (Err 17) (Some (plain 256 257 rw ∷ []))
-    ∷ []
-
--- error_noreplace_access: what the profile answers, and Linux
-pub record ErrorNoreplaceAccess : Type 0 where
-  pub profile : IsByProfile (config 65536 140737354133504 65530 0 (file_row 3 false true 4096 ∷ [])) error_noreplace_access_by_profile
-  pub linux_6_1 : IsAsRecorded (on_the_machine linux_6_1 false (config 4096 140737354133504 65530 0 (file_row 3 false true 4096 ∷ []))) error_noreplace_access_by_linux
-  pub linux_6_12 : IsAsRecorded (on_the_machine linux_6_12 false (config 4096 140737354133504 65530 0 (file_row 3 false true 4096 ∷ []))) error_noreplace_access_by_linux
-  pub linux_6_16 : IsAsRecorded (on_the_machine linux_6_16 false (config 4096 140737354133504 65530 0 (file_row 3 false true 4096 ∷ []))) error_noreplace_access_by_linux
-  pub linux_6_17 : IsAsRecorded (on_the_machine linux_6_17 false (config 4096 140737354133504 65530 0 (file_row 3 false true 4096 ∷ []))) error_noreplace_access_by_linux
-  pub linux_6_18_15 : IsAsRecorded (on_the_machine linux_6_18_15 false (config 4096 140737354133504 65530 0 (file_row 3 false true 4096 ∷ []))) error_noreplace_access_by_linux
-  pub linux_6_18 : IsAsRecorded (on_the_machine linux_6_18 false (config 4096 140737354133504 65530 0 (file_row 3 false true 4096 ∷ []))) error_noreplace_access_by_linux
-  pub linux_7_2 : IsAsRecorded (on_the_machine linux_7_2 false (config 4096 140737354133504 65530 0 (file_row 3 false true 4096 ∷ []))) error_noreplace_access_by_linux
-
--- error_unshared_limit
-abbrev pub error_unshared_limit_by_profile : List Step
-error_unshared_limit_by_profile =
-    kernel_step 0 (Map 140737488351232 4096 r 48 (negsuc 0) 0) (Err 22) (Some ([]))
-    ∷ []
-
--- error_unshared_limit
-abbrev pub error_unshared_limit_by_linux : List Step
-error_unshared_limit_by_linux =
-    kernel_step 0 (Map 140737488351232 4096 r 48 (negsuc 0) 0) (Err 12) (Some ([]))
-    ∷ []
-
--- error_unshared_limit: what the profile answers, and Linux
-pub record ErrorUnsharedLimit : Type 0 where
-  pub profile : IsByProfile (config 65536 140737354133504 65530 0 ([])) error_unshared_limit_by_profile
-  pub linux_6_1 : IsAsRecorded (on_the_machine linux_6_1 false (config 4096 140737354133504 65530 0 ([]))) error_unshared_limit_by_linux
-  pub linux_6_12 : IsAsRecorded (on_the_machine linux_6_12 false (config 4096 140737354133504 65530 0 ([]))) error_unshared_limit_by_linux
-  pub linux_6_16 : IsAsRecorded (on_the_machine linux_6_16 false (config 4096 140737354133504 65530 0 ([]))) error_unshared_limit_by_linux
-  pub linux_6_17 : IsAsRecorded (on_the_machine linux_6_17 false (config 4096 140737354133504 65530 0 ([]))) error_unshared_limit_by_linux
-  pub linux_6_18_15 : IsAsRecorded (on_the_machine linux_6_18_15 false (config 4096 140737354133504 65530 0 ([]))) error_unshared_limit_by_linux
-  pub linux_6_18 : IsAsRecorded (on_the_machine linux_6_18 false (config 4096 140737354133504 65530 0 ([]))) error_unshared_limit_by_linux
-  pub linux_7_2 : IsAsRecorded (on_the_machine linux_7_2 false (config 4096 140737354133504 65530 0 ([]))) error_unshared_limit_by_linux
-
 -- all rows of this file
 pub record AllRows2 : Type 0 where
+  pub overcommit : Overcommit
+  pub overcommit_mprotect : OvercommitMprotect
+  pub overcommit_brk : OvercommitBrk
   pub below_min : BelowMin
   pub hint_min : HintMin
   pub near_end : NearEnd
@@ -409,10 +393,7 @@ pub record AllRows2 : Type 0 where
   pub mremap_object_end : MremapObjectEnd
   pub mremap_dontunmap : MremapDontunmap
   pub mremap_old_zero : MremapOldZero
+  pub mremap_old_zero_private : MremapOldZeroPrivate
   pub mremap_old_wraps : MremapOldWraps
   pub mremap_past_limit : MremapPastLimit
   pub mremap_past_limit_shrinks : MremapPastLimitShrinks
-  pub mremap_several : MremapSeveral
-  pub mremap_cut_first : MremapCutFirst
-  pub error_noreplace_access : ErrorNoreplaceAccess
-  pub error_unshared_limit : ErrorUnsharedLimit

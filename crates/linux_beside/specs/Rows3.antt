@@ -1,11 +1,134 @@
 -- Rows of docs/KERNEL.md. Made by dev/make-linux-rules from examples/kernel-rows.txt.
 use Rattle.std.specs.Prelude.{List, ◌∷◌, [], true, false, pos, negsuc, Some, None, Ok, Err}
-use Rattle.mm_types.specs.declared.area.Access.TheVariants.{Read}
-use Rattle.linux_rules.specs.declared.verdict.LinuxVerdict.TheVariants.{PkuErr}
 use Rattle.linux_rules.specs.Versions.{linux_6_1, linux_6_12, linux_6_16, linux_6_17, linux_6_18_15, linux_6_18, linux_7_2}
-use Rattle.linux_rules.specs.Steps.{Map, Remap, Touch, Returned, Serves, Signal, Step, r, x, rw, plain, kernel_step, file_row, config}
+use Rattle.linux_rules.specs.Steps.{Map, Remap, Returned, Step, r, rw, plain, kernel_step, file_row, config}
 use Rattle.linux_rules.specs.Recorded.{IsAsRecorded}
 use Rattle.linux_beside.specs.Sides.{IsByProfile, on_the_machine}
+
+-- mremap_several
+abbrev pub mremap_several_by_profile : List Step
+mremap_several_by_profile =
+    kernel_step 0 (Map 1048576 4096 rw 50 (negsuc 0) 0) (Ok (Returned 1048576)) None
+    ∷ kernel_step 0 (Map 1052672 4096 r 50 (negsuc 0) 0) (Ok (Returned 1052672)) None
+    ∷ kernel_step 0 (Remap 1048576 8192 8192 3 2097152) (Err 14) (Some (plain 256 257 rw ∷ plain 257 258 r ∷ []))
+    ∷ []
+
+-- mremap_several
+abbrev pub mremap_several_by_linux : List Step
+mremap_several_by_linux =
+    kernel_step 0 (Map 1048576 4096 rw 50 (negsuc 0) 0) (Ok (Returned 1048576)) None
+    ∷ kernel_step 0 (Map 1052672 4096 r 50 (negsuc 0) 0) (Ok (Returned 1052672)) None
+    ∷ kernel_step 0 (Remap 1048576 8192 8192 3 2097152) (Ok (Returned 2097152)) (Some (plain 512 513 rw ∷ plain 513 514 r ∷ []))
+    ∷ []
+
+-- mremap_several: what the profile answers, and Linux
+pub record MremapSeveral : Type 0 where
+  pub profile : IsByProfile (config 65536 140737354133504 65530 0 ([])) mremap_several_by_profile
+  pub linux_6_1 : IsAsRecorded (on_the_machine linux_6_1 false (config 4096 140737354133504 65530 0 ([]))) mremap_several_by_profile
+  pub linux_6_12 : IsAsRecorded (on_the_machine linux_6_12 false (config 4096 140737354133504 65530 0 ([]))) mremap_several_by_profile
+  pub linux_6_16 : IsAsRecorded (on_the_machine linux_6_16 false (config 4096 140737354133504 65530 0 ([]))) mremap_several_by_profile
+  pub linux_6_17 : IsAsRecorded (on_the_machine linux_6_17 false (config 4096 140737354133504 65530 0 ([]))) mremap_several_by_linux
+  pub linux_6_18_15 : IsAsRecorded (on_the_machine linux_6_18_15 false (config 4096 140737354133504 65530 0 ([]))) mremap_several_by_linux
+  pub linux_6_18 : IsAsRecorded (on_the_machine linux_6_18 false (config 4096 140737354133504 65530 0 ([]))) mremap_several_by_linux
+  pub linux_7_2 : IsAsRecorded (on_the_machine linux_7_2 false (config 4096 140737354133504 65530 0 ([]))) mremap_several_by_linux
+
+-- mremap_several_hole
+abbrev pub mremap_several_hole_by_profile : List Step
+mremap_several_hole_by_profile =
+    kernel_step 0 (Map 1048576 4096 rw 50 (negsuc 0) 0) (Ok (Returned 1048576)) None
+    ∷ kernel_step 0 (Remap 1048576 8192 8192 3 2097152) (Err 14) (Some (plain 256 257 rw ∷ []))
+    ∷ []
+
+-- mremap_several_hole
+abbrev pub mremap_several_hole_by_linux : List Step
+mremap_several_hole_by_linux =
+    kernel_step 0 (Map 1048576 4096 rw 50 (negsuc 0) 0) (Ok (Returned 1048576)) None
+    ∷ kernel_step 0 (Remap 1048576 8192 8192 3 2097152) (Ok (Returned 2097152)) (Some (plain 512 513 rw ∷ []))
+    ∷ []
+
+-- mremap_several_hole: what the profile answers, and Linux
+pub record MremapSeveralHole : Type 0 where
+  pub profile : IsByProfile (config 65536 140737354133504 65530 0 ([])) mremap_several_hole_by_profile
+  pub linux_6_1 : IsAsRecorded (on_the_machine linux_6_1 false (config 4096 140737354133504 65530 0 ([]))) mremap_several_hole_by_profile
+  pub linux_6_12 : IsAsRecorded (on_the_machine linux_6_12 false (config 4096 140737354133504 65530 0 ([]))) mremap_several_hole_by_profile
+  pub linux_6_16 : IsAsRecorded (on_the_machine linux_6_16 false (config 4096 140737354133504 65530 0 ([]))) mremap_several_hole_by_profile
+  pub linux_6_17 : IsAsRecorded (on_the_machine linux_6_17 false (config 4096 140737354133504 65530 0 ([]))) mremap_several_hole_by_linux
+  pub linux_6_18_15 : IsAsRecorded (on_the_machine linux_6_18_15 false (config 4096 140737354133504 65530 0 ([]))) mremap_several_hole_by_linux
+  pub linux_6_18 : IsAsRecorded (on_the_machine linux_6_18 false (config 4096 140737354133504 65530 0 ([]))) mremap_several_hole_by_linux
+  pub linux_7_2 : IsAsRecorded (on_the_machine linux_7_2 false (config 4096 140737354133504 65530 0 ([]))) mremap_several_hole_by_linux
+
+-- mremap_cut_first
+abbrev pub mremap_cut_first_by_profile : List Step
+mremap_cut_first_by_profile =
+    kernel_step 0 (Map 1048576 8192 rw 50 (negsuc 0) 0) (Ok (Returned 1048576)) None
+    ∷ kernel_step 0 (Remap 1048576 8192 4096 3 0) (Err 1) (Some (plain 256 258 rw ∷ []))
+    ∷ []
+
+-- mremap_cut_first
+abbrev pub mremap_cut_first_by_linux : List Step
+mremap_cut_first_by_linux =
+    kernel_step 0 (Map 1048576 8192 rw 50 (negsuc 0) 0) (Ok (Returned 1048576)) None
+    ∷ kernel_step 0 (Remap 1048576 8192 4096 3 0) (Err 1) (Some (plain 256 257 rw ∷ []))
+    ∷ []
+
+-- mremap_cut_first: what the profile answers, and Linux
+pub record MremapCutFirst : Type 0 where
+  pub profile : IsByProfile (config 65536 140737354133504 65530 0 ([])) mremap_cut_first_by_profile
+  pub linux_6_1 : IsAsRecorded (on_the_machine linux_6_1 false (config 4096 140737354133504 65530 0 ([]))) mremap_cut_first_by_linux
+  pub linux_6_12 : IsAsRecorded (on_the_machine linux_6_12 false (config 4096 140737354133504 65530 0 ([]))) mremap_cut_first_by_linux
+  pub linux_6_16 : IsAsRecorded (on_the_machine linux_6_16 false (config 4096 140737354133504 65530 0 ([]))) mremap_cut_first_by_linux
+  pub linux_6_17 : IsAsRecorded (on_the_machine linux_6_17 false (config 4096 140737354133504 65530 0 ([]))) mremap_cut_first_by_linux
+  pub linux_6_18_15 : IsAsRecorded (on_the_machine linux_6_18_15 false (config 4096 140737354133504 65530 0 ([]))) mremap_cut_first_by_linux
+  pub linux_6_18 : IsAsRecorded (on_the_machine linux_6_18 false (config 4096 140737354133504 65530 0 ([]))) mremap_cut_first_by_linux
+  pub linux_7_2 : IsAsRecorded (on_the_machine linux_7_2 false (config 4096 140737354133504 65530 0 ([]))) mremap_cut_first_by_linux
+
+-- error_noreplace_access
+abbrev pub error_noreplace_access_by_profile : List Step
+error_noreplace_access_by_profile =
+    kernel_step 0 (Map 1048576 4096 rw 50 (negsuc 0) 0) (Ok (Returned 1048576)) None
+    ∷ kernel_step 0 (Map 1048576 4096 r 1048578 (pos 3) 0) (Err 13) (Some (plain 256 257 rw ∷ []))
+    ∷ []
+
+-- error_noreplace_access
+abbrev pub error_noreplace_access_by_linux : List Step
+error_noreplace_access_by_linux =
+    kernel_step 0 (Map 1048576 4096 rw 50 (negsuc 0) 0) (Ok (Returned 1048576)) None
+    ∷ kernel_step 0 (Map 1048576 4096 r 1048578 (pos 3) 0) (Err 17) (Some (plain 256 257 rw ∷ []))
+    ∷ []
+
+-- error_noreplace_access: what the profile answers, and Linux
+pub record ErrorNoreplaceAccess : Type 0 where
+  pub profile : IsByProfile (config 65536 140737354133504 65530 0 (file_row 3 false true 4096 ∷ [])) error_noreplace_access_by_profile
+  pub linux_6_1 : IsAsRecorded (on_the_machine linux_6_1 false (config 4096 140737354133504 65530 0 (file_row 3 false true 4096 ∷ []))) error_noreplace_access_by_linux
+  pub linux_6_12 : IsAsRecorded (on_the_machine linux_6_12 false (config 4096 140737354133504 65530 0 (file_row 3 false true 4096 ∷ []))) error_noreplace_access_by_linux
+  pub linux_6_16 : IsAsRecorded (on_the_machine linux_6_16 false (config 4096 140737354133504 65530 0 (file_row 3 false true 4096 ∷ []))) error_noreplace_access_by_linux
+  pub linux_6_17 : IsAsRecorded (on_the_machine linux_6_17 false (config 4096 140737354133504 65530 0 (file_row 3 false true 4096 ∷ []))) error_noreplace_access_by_linux
+  pub linux_6_18_15 : IsAsRecorded (on_the_machine linux_6_18_15 false (config 4096 140737354133504 65530 0 (file_row 3 false true 4096 ∷ []))) error_noreplace_access_by_linux
+  pub linux_6_18 : IsAsRecorded (on_the_machine linux_6_18 false (config 4096 140737354133504 65530 0 (file_row 3 false true 4096 ∷ []))) error_noreplace_access_by_linux
+  pub linux_7_2 : IsAsRecorded (on_the_machine linux_7_2 false (config 4096 140737354133504 65530 0 (file_row 3 false true 4096 ∷ []))) error_noreplace_access_by_linux
+
+-- error_unshared_limit
+abbrev pub error_unshared_limit_by_profile : List Step
+error_unshared_limit_by_profile =
+    kernel_step 0 (Map 140737488351232 4096 r 48 (negsuc 0) 0) (Err 22) (Some ([]))
+    ∷ []
+
+-- error_unshared_limit
+abbrev pub error_unshared_limit_by_linux : List Step
+error_unshared_limit_by_linux =
+    kernel_step 0 (Map 140737488351232 4096 r 48 (negsuc 0) 0) (Err 12) (Some ([]))
+    ∷ []
+
+-- error_unshared_limit: what the profile answers, and Linux
+pub record ErrorUnsharedLimit : Type 0 where
+  pub profile : IsByProfile (config 65536 140737354133504 65530 0 ([])) error_unshared_limit_by_profile
+  pub linux_6_1 : IsAsRecorded (on_the_machine linux_6_1 false (config 4096 140737354133504 65530 0 ([]))) error_unshared_limit_by_linux
+  pub linux_6_12 : IsAsRecorded (on_the_machine linux_6_12 false (config 4096 140737354133504 65530 0 ([]))) error_unshared_limit_by_linux
+  pub linux_6_16 : IsAsRecorded (on_the_machine linux_6_16 false (config 4096 140737354133504 65530 0 ([]))) error_unshared_limit_by_linux
+  pub linux_6_17 : IsAsRecorded (on_the_machine linux_6_17 false (config 4096 140737354133504 65530 0 ([]))) error_unshared_limit_by_linux
+  pub linux_6_18_15 : IsAsRecorded (on_the_machine linux_6_18_15 false (config 4096 140737354133504 65530 0 ([]))) error_unshared_limit_by_linux
+  pub linux_6_18 : IsAsRecorded (on_the_machine linux_6_18 false (config 4096 140737354133504 65530 0 ([]))) error_unshared_limit_by_linux
+  pub linux_7_2 : IsAsRecorded (on_the_machine linux_7_2 false (config 4096 140737354133504 65530 0 ([]))) error_unshared_limit_by_linux
 
 -- error_offset_odd
 abbrev pub error_offset_odd_by_profile : List Step
@@ -264,127 +387,13 @@ pub record ErrorValidateLimit : Type 0 where
   pub linux_6_18 : IsAsRecorded (on_the_machine linux_6_18 false (config 4096 140737354133504 65530 0 ([]))) error_validate_limit_by_linux
   pub linux_7_2 : IsAsRecorded (on_the_machine linux_7_2 false (config 4096 140737354133504 65530 0 ([]))) error_validate_limit_by_linux
 
--- error_writable_unshared
-abbrev pub error_writable_unshared_by_profile : List Step
-error_writable_unshared_by_profile =
-    kernel_step 0 (Map 1048576 4096 rw 19 (pos 3) 0) (Err 22) (Some ([]))
-    ∷ []
-
--- error_writable_unshared
-abbrev pub error_writable_unshared_by_linux : List Step
-error_writable_unshared_by_linux =
-    kernel_step 0 (Map 1048576 4096 rw 19 (pos 3) 0) (Err 13) (Some ([]))
-    ∷ []
-
--- error_writable_unshared: what the profile answers, and Linux
-pub record ErrorWritableUnshared : Type 0 where
-  pub profile : IsByProfile (config 65536 140737354133504 65530 0 (file_row 3 true false 4096 ∷ [])) error_writable_unshared_by_profile
-  pub linux_6_1 : IsAsRecorded (on_the_machine linux_6_1 false (config 4096 140737354133504 65530 0 (file_row 3 true false 4096 ∷ []))) error_writable_unshared_by_linux
-  pub linux_6_12 : IsAsRecorded (on_the_machine linux_6_12 false (config 4096 140737354133504 65530 0 (file_row 3 true false 4096 ∷ []))) error_writable_unshared_by_linux
-  pub linux_6_16 : IsAsRecorded (on_the_machine linux_6_16 false (config 4096 140737354133504 65530 0 (file_row 3 true false 4096 ∷ []))) error_writable_unshared_by_linux
-  pub linux_6_17 : IsAsRecorded (on_the_machine linux_6_17 false (config 4096 140737354133504 65530 0 (file_row 3 true false 4096 ∷ []))) error_writable_unshared_by_linux
-  pub linux_6_18_15 : IsAsRecorded (on_the_machine linux_6_18_15 false (config 4096 140737354133504 65530 0 (file_row 3 true false 4096 ∷ []))) error_writable_unshared_by_linux
-  pub linux_6_18 : IsAsRecorded (on_the_machine linux_6_18 false (config 4096 140737354133504 65530 0 (file_row 3 true false 4096 ∷ []))) error_writable_unshared_by_linux
-  pub linux_7_2 : IsAsRecorded (on_the_machine linux_7_2 false (config 4096 140737354133504 65530 0 (file_row 3 true false 4096 ∷ []))) error_writable_unshared_by_linux
-
--- error_unshared_place
-abbrev pub error_unshared_place_by_profile : List Step
-error_unshared_place_by_profile =
-    kernel_step 0 (Map 0 140737488289792 r 32 (negsuc 0) 0) (Err 22) (Some ([]))
-    ∷ []
-
--- error_unshared_place
-abbrev pub error_unshared_place_by_linux : List Step
-error_unshared_place_by_linux =
-    kernel_step 0 (Map 0 140737488289792 r 32 (negsuc 0) 0) (Err 12) (Some ([]))
-    ∷ []
-
--- error_unshared_place: what the profile answers, and Linux
-pub record ErrorUnsharedPlace : Type 0 where
-  pub profile : IsByProfile (config 65536 140737354133504 65530 0 ([])) error_unshared_place_by_profile
-  pub linux_6_1 : IsAsRecorded (on_the_machine linux_6_1 false (config 4096 140737354133504 65530 0 ([]))) error_unshared_place_by_linux
-  pub linux_6_12 : IsAsRecorded (on_the_machine linux_6_12 false (config 4096 140737354133504 65530 0 ([]))) error_unshared_place_by_linux
-  pub linux_6_16 : IsAsRecorded (on_the_machine linux_6_16 false (config 4096 140737354133504 65530 0 ([]))) error_unshared_place_by_linux
-  pub linux_6_17 : IsAsRecorded (on_the_machine linux_6_17 false (config 4096 140737354133504 65530 0 ([]))) error_unshared_place_by_linux
-  pub linux_6_18_15 : IsAsRecorded (on_the_machine linux_6_18_15 false (config 4096 140737354133504 65530 0 ([]))) error_unshared_place_by_linux
-  pub linux_6_18 : IsAsRecorded (on_the_machine linux_6_18 false (config 4096 140737354133504 65530 0 ([]))) error_unshared_place_by_linux
-  pub linux_7_2 : IsAsRecorded (on_the_machine linux_7_2 false (config 4096 140737354133504 65530 0 ([]))) error_unshared_place_by_linux
-
--- error_old_zero_unmapped
-abbrev pub error_old_zero_unmapped_by_profile : List Step
-error_old_zero_unmapped_by_profile =
-    kernel_step 0 (Remap 1048576 0 4096 1 0) (Err 22) (Some ([]))
-    ∷ []
-
--- error_old_zero_unmapped
-abbrev pub error_old_zero_unmapped_by_linux : List Step
-error_old_zero_unmapped_by_linux =
-    kernel_step 0 (Remap 1048576 0 4096 1 0) (Err 14) (Some ([]))
-    ∷ []
-
--- error_old_zero_unmapped: what the profile answers, and Linux
-pub record ErrorOldZeroUnmapped : Type 0 where
-  pub profile : IsByProfile (config 65536 140737354133504 65530 0 ([])) error_old_zero_unmapped_by_profile
-  pub linux_6_1 : IsAsRecorded (on_the_machine linux_6_1 false (config 4096 140737354133504 65530 0 ([]))) error_old_zero_unmapped_by_linux
-  pub linux_6_12 : IsAsRecorded (on_the_machine linux_6_12 false (config 4096 140737354133504 65530 0 ([]))) error_old_zero_unmapped_by_linux
-  pub linux_6_16 : IsAsRecorded (on_the_machine linux_6_16 false (config 4096 140737354133504 65530 0 ([]))) error_old_zero_unmapped_by_linux
-  pub linux_6_17 : IsAsRecorded (on_the_machine linux_6_17 false (config 4096 140737354133504 65530 0 ([]))) error_old_zero_unmapped_by_linux
-  pub linux_6_18_15 : IsAsRecorded (on_the_machine linux_6_18_15 false (config 4096 140737354133504 65530 0 ([]))) error_old_zero_unmapped_by_linux
-  pub linux_6_18 : IsAsRecorded (on_the_machine linux_6_18 false (config 4096 140737354133504 65530 0 ([]))) error_old_zero_unmapped_by_linux
-  pub linux_7_2 : IsAsRecorded (on_the_machine linux_7_2 false (config 4096 140737354133504 65530 0 ([]))) error_old_zero_unmapped_by_linux
-
--- error_noreplace_unshared
-abbrev pub error_noreplace_unshared_by_profile : List Step
-error_noreplace_unshared_by_profile =
-    kernel_step 0 (Map 1048576 4096 rw 50 (negsuc 0) 0) (Ok (Returned 1048576)) None
-    ∷ kernel_step 0 (Map 1048576 4096 r 1048608 (negsuc 0) 0) (Err 22) (Some (plain 256 257 rw ∷ []))
-    ∷ []
-
--- error_noreplace_unshared
-abbrev pub error_noreplace_unshared_by_linux : List Step
-error_noreplace_unshared_by_linux =
-    kernel_step 0 (Map 1048576 4096 rw 50 (negsuc 0) 0) (Ok (Returned 1048576)) None
-    ∷ kernel_step 0 (Map 1048576 4096 r 1048608 (negsuc 0) 0) (Err 17) (Some (plain 256 257 rw ∷ []))
-    ∷ []
-
--- error_noreplace_unshared: what the profile answers, and Linux
-pub record ErrorNoreplaceUnshared : Type 0 where
-  pub profile : IsByProfile (config 65536 140737354133504 65530 0 ([])) error_noreplace_unshared_by_profile
-  pub linux_6_1 : IsAsRecorded (on_the_machine linux_6_1 false (config 4096 140737354133504 65530 0 ([]))) error_noreplace_unshared_by_linux
-  pub linux_6_12 : IsAsRecorded (on_the_machine linux_6_12 false (config 4096 140737354133504 65530 0 ([]))) error_noreplace_unshared_by_linux
-  pub linux_6_16 : IsAsRecorded (on_the_machine linux_6_16 false (config 4096 140737354133504 65530 0 ([]))) error_noreplace_unshared_by_linux
-  pub linux_6_17 : IsAsRecorded (on_the_machine linux_6_17 false (config 4096 140737354133504 65530 0 ([]))) error_noreplace_unshared_by_linux
-  pub linux_6_18_15 : IsAsRecorded (on_the_machine linux_6_18_15 false (config 4096 140737354133504 65530 0 ([]))) error_noreplace_unshared_by_linux
-  pub linux_6_18 : IsAsRecorded (on_the_machine linux_6_18 false (config 4096 140737354133504 65530 0 ([]))) error_noreplace_unshared_by_linux
-  pub linux_7_2 : IsAsRecorded (on_the_machine linux_7_2 false (config 4096 140737354133504 65530 0 ([]))) error_noreplace_unshared_by_linux
-
--- fault_exec_only
-abbrev pub fault_exec_only_by_profile : List Step
-fault_exec_only_by_profile =
-    kernel_step 0 (Map 1048576 4096 x 50 (negsuc 0) 0) (Ok (Returned 1048576)) None
-    ∷ kernel_step 0 (Touch 256 Read) (Ok (Serves 256 257 x false 0)) (Some (plain 256 257 x ∷ []))
-    ∷ []
-
--- fault_exec_only
-abbrev pub fault_exec_only_by_linux : List Step
-fault_exec_only_by_linux =
-    kernel_step 0 (Map 1048576 4096 x 50 (negsuc 0) 0) (Ok (Returned 1048576)) None
-    ∷ kernel_step 0 (Touch 256 Read) (Ok (Signal PkuErr)) (Some (plain 256 257 x ∷ []))
-    ∷ []
-
--- fault_exec_only: what the profile answers, and Linux
-pub record FaultExecOnly : Type 0 where
-  pub profile : IsByProfile (config 65536 140737354133504 65530 0 ([])) fault_exec_only_by_profile
-  pub linux_6_1 : IsAsRecorded (on_the_machine linux_6_1 false (config 4096 140737354133504 65530 0 ([]))) fault_exec_only_by_linux
-  pub linux_6_12 : IsAsRecorded (on_the_machine linux_6_12 false (config 4096 140737354133504 65530 0 ([]))) fault_exec_only_by_linux
-  pub linux_6_16 : IsAsRecorded (on_the_machine linux_6_16 false (config 4096 140737354133504 65530 0 ([]))) fault_exec_only_by_linux
-  pub linux_6_17 : IsAsRecorded (on_the_machine linux_6_17 false (config 4096 140737354133504 65530 0 ([]))) fault_exec_only_by_linux
-  pub linux_6_18_15 : IsAsRecorded (on_the_machine linux_6_18_15 false (config 4096 140737354133504 65530 0 ([]))) fault_exec_only_by_linux
-  pub linux_6_18 : IsAsRecorded (on_the_machine linux_6_18 false (config 4096 140737354133504 65530 0 ([]))) fault_exec_only_by_linux
-  pub linux_7_2 : IsAsRecorded (on_the_machine linux_7_2 false (config 4096 140737354133504 65530 0 ([]))) fault_exec_only_by_linux
-
 -- all rows of this file
 pub record AllRows3 : Type 0 where
+  pub mremap_several : MremapSeveral
+  pub mremap_several_hole : MremapSeveralHole
+  pub mremap_cut_first : MremapCutFirst
+  pub error_noreplace_access : ErrorNoreplaceAccess
+  pub error_unshared_limit : ErrorUnsharedLimit
   pub error_offset_odd : ErrorOffsetOdd
   pub error_move_below_min : ErrorMoveBelowMin
   pub error_move_odd : ErrorMoveOdd
@@ -396,8 +405,3 @@ pub record AllRows3 : Type 0 where
   pub error_place_first : ErrorPlaceFirst
   pub error_shared_growing_noreplace : ErrorSharedGrowingNoreplace
   pub error_validate_limit : ErrorValidateLimit
-  pub error_writable_unshared : ErrorWritableUnshared
-  pub error_unshared_place : ErrorUnsharedPlace
-  pub error_old_zero_unmapped : ErrorOldZeroUnmapped
-  pub error_noreplace_unshared : ErrorNoreplaceUnshared
-  pub fault_exec_only : FaultExecOnly

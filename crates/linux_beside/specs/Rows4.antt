@@ -1,11 +1,130 @@
 -- Rows of docs/KERNEL.md. Made by dev/make-linux-rules from examples/kernel-rows.txt.
-use Rattle.std.specs.Prelude.{List, ◌∷◌, [], true, false, pos, negsuc, Some, None, Ok}
+use Rattle.std.specs.Prelude.{List, ◌∷◌, [], true, false, pos, negsuc, Some, None, Ok, Err}
 use Rattle.mm_types.specs.declared.area.Access.TheVariants.{Read, Write, Exec}
 use Rattle.linux_rules.specs.declared.verdict.LinuxVerdict.TheVariants.{MapErr, AccErr, PkuErr, BusErr, NotCanonical}
 use Rattle.linux_rules.specs.Versions.{linux_6_1, linux_6_12, linux_6_16, linux_6_17, linux_6_18_15, linux_6_18, linux_7_2}
 use Rattle.linux_rules.specs.Steps.{Map, Remap, Touch, Returned, Serves, Signal, Step, none, r, x, rw, plain, filed, kernel_step, file_row, config}
 use Rattle.linux_rules.specs.Recorded.{IsAsRecorded}
 use Rattle.linux_beside.specs.Sides.{IsByProfile, on_the_machine}
+
+-- error_writable_unshared
+abbrev pub error_writable_unshared_by_profile : List Step
+error_writable_unshared_by_profile =
+    kernel_step 0 (Map 1048576 4096 rw 19 (pos 3) 0) (Err 22) (Some ([]))
+    ∷ []
+
+-- error_writable_unshared
+abbrev pub error_writable_unshared_by_linux : List Step
+error_writable_unshared_by_linux =
+    kernel_step 0 (Map 1048576 4096 rw 19 (pos 3) 0) (Err 13) (Some ([]))
+    ∷ []
+
+-- error_writable_unshared: what the profile answers, and Linux
+pub record ErrorWritableUnshared : Type 0 where
+  pub profile : IsByProfile (config 65536 140737354133504 65530 0 (file_row 3 true false 4096 ∷ [])) error_writable_unshared_by_profile
+  pub linux_6_1 : IsAsRecorded (on_the_machine linux_6_1 false (config 4096 140737354133504 65530 0 (file_row 3 true false 4096 ∷ []))) error_writable_unshared_by_linux
+  pub linux_6_12 : IsAsRecorded (on_the_machine linux_6_12 false (config 4096 140737354133504 65530 0 (file_row 3 true false 4096 ∷ []))) error_writable_unshared_by_linux
+  pub linux_6_16 : IsAsRecorded (on_the_machine linux_6_16 false (config 4096 140737354133504 65530 0 (file_row 3 true false 4096 ∷ []))) error_writable_unshared_by_linux
+  pub linux_6_17 : IsAsRecorded (on_the_machine linux_6_17 false (config 4096 140737354133504 65530 0 (file_row 3 true false 4096 ∷ []))) error_writable_unshared_by_linux
+  pub linux_6_18_15 : IsAsRecorded (on_the_machine linux_6_18_15 false (config 4096 140737354133504 65530 0 (file_row 3 true false 4096 ∷ []))) error_writable_unshared_by_linux
+  pub linux_6_18 : IsAsRecorded (on_the_machine linux_6_18 false (config 4096 140737354133504 65530 0 (file_row 3 true false 4096 ∷ []))) error_writable_unshared_by_linux
+  pub linux_7_2 : IsAsRecorded (on_the_machine linux_7_2 false (config 4096 140737354133504 65530 0 (file_row 3 true false 4096 ∷ []))) error_writable_unshared_by_linux
+
+-- error_unshared_place
+abbrev pub error_unshared_place_by_profile : List Step
+error_unshared_place_by_profile =
+    kernel_step 0 (Map 0 140737488289792 r 32 (negsuc 0) 0) (Err 22) (Some ([]))
+    ∷ []
+
+-- error_unshared_place
+abbrev pub error_unshared_place_by_linux : List Step
+error_unshared_place_by_linux =
+    kernel_step 0 (Map 0 140737488289792 r 32 (negsuc 0) 0) (Err 12) (Some ([]))
+    ∷ []
+
+-- error_unshared_place: what the profile answers, and Linux
+pub record ErrorUnsharedPlace : Type 0 where
+  pub profile : IsByProfile (config 65536 140737354133504 65530 0 ([])) error_unshared_place_by_profile
+  pub linux_6_1 : IsAsRecorded (on_the_machine linux_6_1 false (config 4096 140737354133504 65530 0 ([]))) error_unshared_place_by_linux
+  pub linux_6_12 : IsAsRecorded (on_the_machine linux_6_12 false (config 4096 140737354133504 65530 0 ([]))) error_unshared_place_by_linux
+  pub linux_6_16 : IsAsRecorded (on_the_machine linux_6_16 false (config 4096 140737354133504 65530 0 ([]))) error_unshared_place_by_linux
+  pub linux_6_17 : IsAsRecorded (on_the_machine linux_6_17 false (config 4096 140737354133504 65530 0 ([]))) error_unshared_place_by_linux
+  pub linux_6_18_15 : IsAsRecorded (on_the_machine linux_6_18_15 false (config 4096 140737354133504 65530 0 ([]))) error_unshared_place_by_linux
+  pub linux_6_18 : IsAsRecorded (on_the_machine linux_6_18 false (config 4096 140737354133504 65530 0 ([]))) error_unshared_place_by_linux
+  pub linux_7_2 : IsAsRecorded (on_the_machine linux_7_2 false (config 4096 140737354133504 65530 0 ([]))) error_unshared_place_by_linux
+
+-- error_old_zero_unmapped
+abbrev pub error_old_zero_unmapped_by_profile : List Step
+error_old_zero_unmapped_by_profile =
+    kernel_step 0 (Remap 1048576 0 4096 1 0) (Err 22) (Some ([]))
+    ∷ []
+
+-- error_old_zero_unmapped
+abbrev pub error_old_zero_unmapped_by_linux : List Step
+error_old_zero_unmapped_by_linux =
+    kernel_step 0 (Remap 1048576 0 4096 1 0) (Err 14) (Some ([]))
+    ∷ []
+
+-- error_old_zero_unmapped: what the profile answers, and Linux
+pub record ErrorOldZeroUnmapped : Type 0 where
+  pub profile : IsByProfile (config 65536 140737354133504 65530 0 ([])) error_old_zero_unmapped_by_profile
+  pub linux_6_1 : IsAsRecorded (on_the_machine linux_6_1 false (config 4096 140737354133504 65530 0 ([]))) error_old_zero_unmapped_by_linux
+  pub linux_6_12 : IsAsRecorded (on_the_machine linux_6_12 false (config 4096 140737354133504 65530 0 ([]))) error_old_zero_unmapped_by_linux
+  pub linux_6_16 : IsAsRecorded (on_the_machine linux_6_16 false (config 4096 140737354133504 65530 0 ([]))) error_old_zero_unmapped_by_linux
+  pub linux_6_17 : IsAsRecorded (on_the_machine linux_6_17 false (config 4096 140737354133504 65530 0 ([]))) error_old_zero_unmapped_by_linux
+  pub linux_6_18_15 : IsAsRecorded (on_the_machine linux_6_18_15 false (config 4096 140737354133504 65530 0 ([]))) error_old_zero_unmapped_by_linux
+  pub linux_6_18 : IsAsRecorded (on_the_machine linux_6_18 false (config 4096 140737354133504 65530 0 ([]))) error_old_zero_unmapped_by_linux
+  pub linux_7_2 : IsAsRecorded (on_the_machine linux_7_2 false (config 4096 140737354133504 65530 0 ([]))) error_old_zero_unmapped_by_linux
+
+-- error_noreplace_unshared
+abbrev pub error_noreplace_unshared_by_profile : List Step
+error_noreplace_unshared_by_profile =
+    kernel_step 0 (Map 1048576 4096 rw 50 (negsuc 0) 0) (Ok (Returned 1048576)) None
+    ∷ kernel_step 0 (Map 1048576 4096 r 1048608 (negsuc 0) 0) (Err 22) (Some (plain 256 257 rw ∷ []))
+    ∷ []
+
+-- error_noreplace_unshared
+abbrev pub error_noreplace_unshared_by_linux : List Step
+error_noreplace_unshared_by_linux =
+    kernel_step 0 (Map 1048576 4096 rw 50 (negsuc 0) 0) (Ok (Returned 1048576)) None
+    ∷ kernel_step 0 (Map 1048576 4096 r 1048608 (negsuc 0) 0) (Err 17) (Some (plain 256 257 rw ∷ []))
+    ∷ []
+
+-- error_noreplace_unshared: what the profile answers, and Linux
+pub record ErrorNoreplaceUnshared : Type 0 where
+  pub profile : IsByProfile (config 65536 140737354133504 65530 0 ([])) error_noreplace_unshared_by_profile
+  pub linux_6_1 : IsAsRecorded (on_the_machine linux_6_1 false (config 4096 140737354133504 65530 0 ([]))) error_noreplace_unshared_by_linux
+  pub linux_6_12 : IsAsRecorded (on_the_machine linux_6_12 false (config 4096 140737354133504 65530 0 ([]))) error_noreplace_unshared_by_linux
+  pub linux_6_16 : IsAsRecorded (on_the_machine linux_6_16 false (config 4096 140737354133504 65530 0 ([]))) error_noreplace_unshared_by_linux
+  pub linux_6_17 : IsAsRecorded (on_the_machine linux_6_17 false (config 4096 140737354133504 65530 0 ([]))) error_noreplace_unshared_by_linux
+  pub linux_6_18_15 : IsAsRecorded (on_the_machine linux_6_18_15 false (config 4096 140737354133504 65530 0 ([]))) error_noreplace_unshared_by_linux
+  pub linux_6_18 : IsAsRecorded (on_the_machine linux_6_18 false (config 4096 140737354133504 65530 0 ([]))) error_noreplace_unshared_by_linux
+  pub linux_7_2 : IsAsRecorded (on_the_machine linux_7_2 false (config 4096 140737354133504 65530 0 ([]))) error_noreplace_unshared_by_linux
+
+-- fault_exec_only
+abbrev pub fault_exec_only_by_profile : List Step
+fault_exec_only_by_profile =
+    kernel_step 0 (Map 1048576 4096 x 50 (negsuc 0) 0) (Ok (Returned 1048576)) None
+    ∷ kernel_step 0 (Touch 256 Read) (Ok (Serves 256 257 x false 0)) (Some (plain 256 257 x ∷ []))
+    ∷ []
+
+-- fault_exec_only
+abbrev pub fault_exec_only_by_linux : List Step
+fault_exec_only_by_linux =
+    kernel_step 0 (Map 1048576 4096 x 50 (negsuc 0) 0) (Ok (Returned 1048576)) None
+    ∷ kernel_step 0 (Touch 256 Read) (Ok (Signal PkuErr)) (Some (plain 256 257 x ∷ []))
+    ∷ []
+
+-- fault_exec_only: what the profile answers, and Linux
+pub record FaultExecOnly : Type 0 where
+  pub profile : IsByProfile (config 65536 140737354133504 65530 0 ([])) fault_exec_only_by_profile
+  pub linux_6_1 : IsAsRecorded (on_the_machine linux_6_1 false (config 4096 140737354133504 65530 0 ([]))) fault_exec_only_by_linux
+  pub linux_6_12 : IsAsRecorded (on_the_machine linux_6_12 false (config 4096 140737354133504 65530 0 ([]))) fault_exec_only_by_linux
+  pub linux_6_16 : IsAsRecorded (on_the_machine linux_6_16 false (config 4096 140737354133504 65530 0 ([]))) fault_exec_only_by_linux
+  pub linux_6_17 : IsAsRecorded (on_the_machine linux_6_17 false (config 4096 140737354133504 65530 0 ([]))) fault_exec_only_by_linux
+  pub linux_6_18_15 : IsAsRecorded (on_the_machine linux_6_18_15 false (config 4096 140737354133504 65530 0 ([]))) fault_exec_only_by_linux
+  pub linux_6_18 : IsAsRecorded (on_the_machine linux_6_18 false (config 4096 140737354133504 65530 0 ([]))) fault_exec_only_by_linux
+  pub linux_7_2 : IsAsRecorded (on_the_machine linux_7_2 false (config 4096 140737354133504 65530 0 ([]))) fault_exec_only_by_linux
 
 -- fault_exec_only_write
 abbrev pub fault_exec_only_write_by_profile : List Step
@@ -296,169 +415,13 @@ pub record GrowGrowing : Type 0 where
   pub linux_6_18 : IsAsRecorded (on_the_machine linux_6_18 false (config 4096 140737354133504 65530 0 ([]))) grow_growing_by_linux
   pub linux_7_2 : IsAsRecorded (on_the_machine linux_7_2 false (config 4096 140737354133504 65530 0 ([]))) grow_growing_by_linux
 
--- grow_denied
-abbrev pub grow_denied_by_profile : List Step
-grow_denied_by_profile =
-    kernel_step 0 (Map 2097152 4096 r 306 (negsuc 0) 0) (Ok (Returned 2097152)) None
-    ∷ kernel_step 0 (Touch 511 Write) (Ok (Signal AccErr)) (Some (plain 512 513 r ∷ []))
-    ∷ []
-
--- grow_denied
-abbrev pub grow_denied_by_linux : List Step
-grow_denied_by_linux =
-    kernel_step 0 (Map 2097152 4096 r 306 (negsuc 0) 0) (Ok (Returned 2097152)) None
-    ∷ kernel_step 0 (Touch 511 Write) (Ok (Signal AccErr)) (Some (plain 511 513 r ∷ []))
-    ∷ []
-
--- grow_denied: what the profile answers, and Linux
-pub record GrowDenied : Type 0 where
-  pub profile : IsByProfile (config 65536 140737354133504 65530 0 ([])) grow_denied_by_profile
-  pub linux_6_1 : IsAsRecorded (on_the_machine linux_6_1 false (config 4096 140737354133504 65530 0 ([]))) grow_denied_by_linux
-  pub linux_6_12 : IsAsRecorded (on_the_machine linux_6_12 false (config 4096 140737354133504 65530 0 ([]))) grow_denied_by_linux
-  pub linux_6_16 : IsAsRecorded (on_the_machine linux_6_16 false (config 4096 140737354133504 65530 0 ([]))) grow_denied_by_linux
-  pub linux_6_17 : IsAsRecorded (on_the_machine linux_6_17 false (config 4096 140737354133504 65530 0 ([]))) grow_denied_by_linux
-  pub linux_6_18_15 : IsAsRecorded (on_the_machine linux_6_18_15 false (config 4096 140737354133504 65530 0 ([]))) grow_denied_by_linux
-  pub linux_6_18 : IsAsRecorded (on_the_machine linux_6_18 false (config 4096 140737354133504 65530 0 ([]))) grow_denied_by_linux
-  pub linux_7_2 : IsAsRecorded (on_the_machine linux_7_2 false (config 4096 140737354133504 65530 0 ([]))) grow_denied_by_linux
-
--- grow_large
-abbrev pub grow_large_by_profile : List Step
-grow_large_by_profile =
-    kernel_step 0 (Map 268435456 8388608 rw 306 (negsuc 0) 0) (Ok (Returned 268435456)) None
-    ∷ kernel_step 0 (Touch 65535 Write) (Ok (Serves 65535 67584 rw false 0)) (Some (plain 65535 67584 rw ∷ []))
-    ∷ []
-
--- grow_large
-abbrev pub grow_large_by_linux : List Step
-grow_large_by_linux =
-    kernel_step 0 (Map 268435456 8388608 rw 306 (negsuc 0) 0) (Ok (Returned 268435456)) None
-    ∷ kernel_step 0 (Touch 65535 Write) (Ok (Signal MapErr)) (Some (plain 65536 67584 rw ∷ []))
-    ∷ []
-
--- grow_large: what the profile answers, and Linux
-pub record GrowLarge : Type 0 where
-  pub profile : IsByProfile (config 65536 140737354133504 65530 0 ([])) grow_large_by_profile
-  pub linux_6_1 : IsAsRecorded (on_the_machine linux_6_1 false (config 4096 140737354133504 65530 0 ([]))) grow_large_by_linux
-  pub linux_6_12 : IsAsRecorded (on_the_machine linux_6_12 false (config 4096 140737354133504 65530 0 ([]))) grow_large_by_linux
-  pub linux_6_16 : IsAsRecorded (on_the_machine linux_6_16 false (config 4096 140737354133504 65530 0 ([]))) grow_large_by_linux
-  pub linux_6_17 : IsAsRecorded (on_the_machine linux_6_17 false (config 4096 140737354133504 65530 0 ([]))) grow_large_by_linux
-  pub linux_6_18_15 : IsAsRecorded (on_the_machine linux_6_18_15 false (config 4096 140737354133504 65530 0 ([]))) grow_large_by_linux
-  pub linux_6_18 : IsAsRecorded (on_the_machine linux_6_18 false (config 4096 140737354133504 65530 0 ([]))) grow_large_by_linux
-  pub linux_7_2 : IsAsRecorded (on_the_machine linux_7_2 false (config 4096 140737354133504 65530 0 ([]))) grow_large_by_linux
-
--- grow_moved
-abbrev pub grow_moved_by_profile : List Step
-grow_moved_by_profile =
-    kernel_step 0 (Map 65536 4096 rw 306 (negsuc 0) 0) (Ok (Returned 65536)) None
-    ∷ kernel_step 0 (Touch 16 Write) (Ok (Serves 16 17 rw false 0)) None
-    ∷ kernel_step 0 (Remap 65536 4096 4096 3 268435456) (Ok (Returned 268435456)) None
-    ∷ kernel_step 0 (Touch 65535 Write) (Ok (Serves 65535 65537 rw false 0)) None
-    ∷ kernel_step 0 (Touch 65534 Write) (Ok (Serves 65534 65537 rw false 0)) None
-    ∷ kernel_step 0 (Touch 65533 Write) (Ok (Serves 65533 65537 rw false 0)) None
-    ∷ kernel_step 0 (Touch 65532 Write) (Ok (Serves 65532 65537 rw false 0)) None
-    ∷ kernel_step 0 (Touch 65531 Write) (Ok (Serves 65531 65537 rw false 0)) None
-    ∷ kernel_step 0 (Touch 65530 Write) (Ok (Serves 65530 65537 rw false 0)) None
-    ∷ kernel_step 0 (Touch 65529 Write) (Ok (Serves 65529 65537 rw false 0)) None
-    ∷ kernel_step 0 (Touch 65528 Write) (Ok (Serves 65528 65537 rw false 0)) None
-    ∷ kernel_step 0 (Touch 65527 Write) (Ok (Serves 65527 65537 rw false 0)) None
-    ∷ kernel_step 0 (Touch 65526 Write) (Ok (Serves 65526 65537 rw false 0)) None
-    ∷ kernel_step 0 (Touch 65525 Write) (Ok (Serves 65525 65537 rw false 0)) None
-    ∷ kernel_step 0 (Touch 65524 Write) (Ok (Serves 65524 65537 rw false 0)) None
-    ∷ kernel_step 0 (Touch 65523 Write) (Ok (Serves 65523 65537 rw false 0)) None
-    ∷ kernel_step 0 (Touch 65522 Write) (Ok (Serves 65522 65537 rw false 0)) None
-    ∷ kernel_step 0 (Touch 65521 Write) (Ok (Serves 65521 65537 rw false 0)) None
-    ∷ kernel_step 0 (Touch 65520 Write) (Ok (Serves 65520 65537 rw false 0)) None
-    ∷ kernel_step 0 (Touch 65519 Write) (Ok (Serves 65519 65537 rw false 0)) (Some (plain 65519 65537 rw ∷ []))
-    ∷ []
-
--- grow_moved
-abbrev pub grow_moved_by_linux : List Step
-grow_moved_by_linux =
-    kernel_step 0 (Map 65536 4096 rw 306 (negsuc 0) 0) (Ok (Returned 65536)) None
-    ∷ kernel_step 0 (Touch 16 Write) (Ok (Serves 16 17 rw false 0)) None
-    ∷ kernel_step 0 (Remap 65536 4096 4096 3 268435456) (Ok (Returned 268435456)) None
-    ∷ kernel_step 0 (Touch 65535 Write) (Ok (Serves 65535 65537 rw false 0)) None
-    ∷ kernel_step 0 (Touch 65534 Write) (Ok (Serves 65534 65537 rw false 0)) None
-    ∷ kernel_step 0 (Touch 65533 Write) (Ok (Serves 65533 65537 rw false 0)) None
-    ∷ kernel_step 0 (Touch 65532 Write) (Ok (Serves 65532 65537 rw false 0)) None
-    ∷ kernel_step 0 (Touch 65531 Write) (Ok (Serves 65531 65537 rw false 0)) None
-    ∷ kernel_step 0 (Touch 65530 Write) (Ok (Serves 65530 65537 rw false 0)) None
-    ∷ kernel_step 0 (Touch 65529 Write) (Ok (Serves 65529 65537 rw false 0)) None
-    ∷ kernel_step 0 (Touch 65528 Write) (Ok (Serves 65528 65537 rw false 0)) None
-    ∷ kernel_step 0 (Touch 65527 Write) (Ok (Serves 65527 65537 rw false 0)) None
-    ∷ kernel_step 0 (Touch 65526 Write) (Ok (Serves 65526 65537 rw false 0)) None
-    ∷ kernel_step 0 (Touch 65525 Write) (Ok (Serves 65525 65537 rw false 0)) None
-    ∷ kernel_step 0 (Touch 65524 Write) (Ok (Serves 65524 65537 rw false 0)) None
-    ∷ kernel_step 0 (Touch 65523 Write) (Ok (Serves 65523 65537 rw false 0)) None
-    ∷ kernel_step 0 (Touch 65522 Write) (Ok (Serves 65522 65537 rw false 0)) None
-    ∷ kernel_step 0 (Touch 65521 Write) (Ok (Serves 65521 65537 rw false 0)) None
-    ∷ kernel_step 0 (Touch 65520 Write) (Ok (Serves 65520 65537 rw false 0)) None
-    ∷ kernel_step 0 (Touch 65519 Write) (Ok (Signal MapErr)) (Some (plain 65520 65537 rw ∷ []))
-    ∷ []
-
--- grow_moved: what the profile answers, and Linux
-pub record GrowMoved : Type 0 where
-  pub profile : IsByProfile (config 65536 140737354133504 65530 0 ([])) grow_moved_by_profile
-  pub linux_6_1 : IsAsRecorded (on_the_machine linux_6_1 false (config 4096 140737354133504 65530 0 ([]))) grow_moved_by_linux
-  pub linux_6_12 : IsAsRecorded (on_the_machine linux_6_12 false (config 4096 140737354133504 65530 0 ([]))) grow_moved_by_linux
-  pub linux_6_16 : IsAsRecorded (on_the_machine linux_6_16 false (config 4096 140737354133504 65530 0 ([]))) grow_moved_by_linux
-  pub linux_6_17 : IsAsRecorded (on_the_machine linux_6_17 false (config 4096 140737354133504 65530 0 ([]))) grow_moved_by_linux
-  pub linux_6_18_15 : IsAsRecorded (on_the_machine linux_6_18_15 false (config 4096 140737354133504 65530 0 ([]))) grow_moved_by_linux
-  pub linux_6_18 : IsAsRecorded (on_the_machine linux_6_18 false (config 4096 140737354133504 65530 0 ([]))) grow_moved_by_linux
-  pub linux_7_2 : IsAsRecorded (on_the_machine linux_7_2 false (config 4096 140737354133504 65530 0 ([]))) grow_moved_by_linux
-
--- grow_hint
-abbrev pub grow_hint_by_profile : List Step
-grow_hint_by_profile =
-    kernel_step 0 (Map 2097152 4096 rw 306 (negsuc 0) 0) (Ok (Returned 2097152)) None
-    ∷ kernel_step 0 (Map 1572864 4096 rw 34 (negsuc 0) 0) (Ok (Returned 1572864)) (Some (plain 384 385 rw ∷ plain 512 513 rw ∷ []))
-    ∷ []
-
--- grow_hint
-abbrev pub grow_hint_by_linux : List Step
-grow_hint_by_linux =
-    kernel_step 0 (Map 2097152 4096 rw 306 (negsuc 0) 0) (Ok (Returned 2097152)) None
-    ∷ kernel_step 0 (Map 1572864 4096 rw 34 (negsuc 0) 0) (Ok (Returned 140737354129408)) (Some (plain 512 513 rw ∷ plain 34359705598 34359705599 rw ∷ []))
-    ∷ []
-
--- grow_hint: what the profile answers, and Linux
-pub record GrowHint : Type 0 where
-  pub profile : IsByProfile (config 65536 140737354133504 65530 0 ([])) grow_hint_by_profile
-  pub linux_6_1 : IsAsRecorded (on_the_machine linux_6_1 false (config 4096 140737354133504 65530 0 ([]))) grow_hint_by_linux
-  pub linux_6_12 : IsAsRecorded (on_the_machine linux_6_12 false (config 4096 140737354133504 65530 0 ([]))) grow_hint_by_linux
-  pub linux_6_16 : IsAsRecorded (on_the_machine linux_6_16 false (config 4096 140737354133504 65530 0 ([]))) grow_hint_by_linux
-  pub linux_6_17 : IsAsRecorded (on_the_machine linux_6_17 false (config 4096 140737354133504 65530 0 ([]))) grow_hint_by_linux
-  pub linux_6_18_15 : IsAsRecorded (on_the_machine linux_6_18_15 false (config 4096 140737354133504 65530 0 ([]))) grow_hint_by_linux
-  pub linux_6_18 : IsAsRecorded (on_the_machine linux_6_18 false (config 4096 140737354133504 65530 0 ([]))) grow_hint_by_linux
-  pub linux_7_2 : IsAsRecorded (on_the_machine linux_7_2 false (config 4096 140737354133504 65530 0 ([]))) grow_hint_by_linux
-
--- grow_search
-abbrev pub grow_search_by_profile : List Step
-grow_search_by_profile =
-    kernel_step 0 (Map 140737354129408 4096 rw 306 (negsuc 0) 0) (Ok (Returned 140737354129408)) None
-    ∷ kernel_step 0 (Map 0 4096 rw 34 (negsuc 0) 0) (Ok (Returned 140737354125312)) (Some (plain 34359705597 34359705598 rw ∷ plain 34359705598 34359705599 rw ∷ []))
-    ∷ []
-
--- grow_search
-abbrev pub grow_search_by_linux : List Step
-grow_search_by_linux =
-    kernel_step 0 (Map 140737354129408 4096 rw 306 (negsuc 0) 0) (Ok (Returned 140737354129408)) None
-    ∷ kernel_step 0 (Map 0 4096 rw 34 (negsuc 0) 0) (Ok (Returned 140737353076736)) (Some (plain 34359705341 34359705342 rw ∷ plain 34359705598 34359705599 rw ∷ []))
-    ∷ []
-
--- grow_search: what the profile answers, and Linux
-pub record GrowSearch : Type 0 where
-  pub profile : IsByProfile (config 65536 140737354133504 65530 0 ([])) grow_search_by_profile
-  pub linux_6_1 : IsAsRecorded (on_the_machine linux_6_1 false (config 4096 140737354133504 65530 0 ([]))) grow_search_by_linux
-  pub linux_6_12 : IsAsRecorded (on_the_machine linux_6_12 false (config 4096 140737354133504 65530 0 ([]))) grow_search_by_linux
-  pub linux_6_16 : IsAsRecorded (on_the_machine linux_6_16 false (config 4096 140737354133504 65530 0 ([]))) grow_search_by_linux
-  pub linux_6_17 : IsAsRecorded (on_the_machine linux_6_17 false (config 4096 140737354133504 65530 0 ([]))) grow_search_by_linux
-  pub linux_6_18_15 : IsAsRecorded (on_the_machine linux_6_18_15 false (config 4096 140737354133504 65530 0 ([]))) grow_search_by_linux
-  pub linux_6_18 : IsAsRecorded (on_the_machine linux_6_18 false (config 4096 140737354133504 65530 0 ([]))) grow_search_by_linux
-  pub linux_7_2 : IsAsRecorded (on_the_machine linux_7_2 false (config 4096 140737354133504 65530 0 ([]))) grow_search_by_linux
-
 -- all rows of this file
 pub record AllRows4 : Type 0 where
+  pub error_writable_unshared : ErrorWritableUnshared
+  pub error_unshared_place : ErrorUnsharedPlace
+  pub error_old_zero_unmapped : ErrorOldZeroUnmapped
+  pub error_noreplace_unshared : ErrorNoreplaceUnshared
+  pub fault_exec_only : FaultExecOnly
   pub fault_exec_only_write : FaultExecOnlyWrite
   pub fault_exec_only_past_end : FaultExecOnlyPastEnd
   pub fault_exec_past_end : FaultExecPastEnd
@@ -470,8 +433,3 @@ pub record AllRows4 : Type 0 where
   pub grow_min : GrowMin
   pub grow_none : GrowNone
   pub grow_growing : GrowGrowing
-  pub grow_denied : GrowDenied
-  pub grow_large : GrowLarge
-  pub grow_moved : GrowMoved
-  pub grow_hint : GrowHint
-  pub grow_search : GrowSearch

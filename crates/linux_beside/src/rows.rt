@@ -6,6 +6,7 @@ ghost use Rattle.linux_beside.specs.Rows3.{AllRows3};
 ghost use Rattle.linux_beside.specs.Rows4.{AllRows4};
 ghost use Rattle.linux_beside.specs.Rows5.{AllRows5};
 ghost use Rattle.linux_beside.specs.Rows6.{AllRows6};
+ghost use Rattle.linux_beside.specs.Rows7.{AllRows7};
 
 /// Rows of docs/KERNEL.md: what the profile answers, and what Linux answers, by version.
 pub fn rows_are_computed()
@@ -15,4 +16,5 @@ pub fn rows_are_computed()
     ensures rows4 { AllRows4 }
     ensures rows5 { AllRows5 }
     ensures rows6 { AllRows6 }
+    ensures rows7 { AllRows7 }
 {}

@@ -5,6 +5,7 @@ use Rattle.linux_beside.proofs.Rows3.{all_rows3}
 use Rattle.linux_beside.proofs.Rows4.{all_rows4}
 use Rattle.linux_beside.proofs.Rows5.{all_rows5}
 use Rattle.linux_beside.proofs.Rows6.{all_rows6}
+use Rattle.linux_beside.proofs.Rows7.{all_rows7}
 use Rattle.linux_beside.proofs.rows.rows_are_computed.Goals as goal
 
 pub returns-clause-rows1 : goal.returns-clause-rows1
@@ -24,3 +25,6 @@ returns-clause-rows5 c = all_rows5
 
 pub returns-clause-rows6 : goal.returns-clause-rows6
 returns-clause-rows6 c = all_rows6
+
+pub returns-clause-rows7 : goal.returns-clause-rows7
+returns-clause-rows7 c = all_rows7
