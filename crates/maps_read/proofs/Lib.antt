@@ -17,7 +17,6 @@ pub mod Steps
 pub mod Fronts
 pub mod Words
 pub mod LineRead
-pub mod FirstLine
 pub mod Ordered
 pub mod Bytes
 pub mod Answers

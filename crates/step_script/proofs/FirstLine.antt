@@ -1,7 +1,6 @@
 -- For `read_lines` and `read_script`: where line 1 is named, no memory is taken.
-use Rattle.std.proofs.Common.{◌≡◌, ◌≢◌, ℕ, ◌+◌, ◌<◌, ◌≤◌, Bool, true, false, not, ◌&&◌, nat_eq, nat_lt, List, [], ◌∷◌, length, IfErr, Option, Some, None, Result, Ok, Err, if◌then◌else◌, refl, sym, ap, ◌∙◌, subst, arith}
+use Rattle.std.proofs.Common.{◌≡◌, ◌≢◌, ℕ, ◌+◌, ◌<◌, ◌≤◌, Bool, true, false, not, ◌&&◌, nat_eq, nat_lt, List, [], ◌∷◌, codes, IfErr, Option, Some, None, Result, Ok, Err, if◌then◌else◌, refl, sym, ap, ◌∙◌, subst, arith}
 use Rattle.std.specs.Prelude.{IsErrOf}
-use Rattle.std.specs.List.{slice_split}
 use Rattle.std.proofs.lemmas.Bool.{eqb-false, false≢true}
 use Rattle.text_lexer.specs.declared.error.BadLine.{BadLine}
 use Rattle.text_lexer.specs.declared.error.CallError.{CallError}
@@ -11,11 +10,12 @@ use Rattle.text_lexer.specs.declared.error.Cause.TheVariants.{Header, TooMany}
 use Rattle.text_lexer.specs.declared.error.ReadError.{ReadError}
 use Rattle.text_lexer.specs.declared.error.ReadError.TheVariants as reads
 use Rattle.text_lexer.specs.Causes.{◌>>=◌}
-use Rattle.text_lexer.specs.BadLines.{bad_line, at_line}
-use Rattle.text_lexer.specs.Lines.{RawLine, raw_line, is_newline, lines_of_pieces, lines_from, raw_lines, text_of}
+use Rattle.text_lexer.specs.BadLines.{at_line}
+use Rattle.text_lexer.specs.Lines.{RawLine, lines_from, raw_lines, text_of}
 use Rattle.text_lexer.specs.Reading.{IsErrorOf, error_at}
-use Rattle.text_lexer.specs.Words.{is_comment, words_of}
+use Rattle.text_lexer.specs.Words.{is_comment, is_header, words_of}
 use Rattle.text_lexer.proofs.RawReading.{first_bad, first_good}
+use Rattle.text_lexer.proofs.FirstLine.{lines_bad}
 use Rattle.step_script.specs.declared.lines.Said.{Said}
 use Rattle.step_script.specs.declared.lines.Said.TheVariants as said
 use Rattle.grace_core.specs.declared.events.GraceEvent.{GraceEvent}
@@ -27,7 +27,7 @@ use Rattle.step_script.specs.Grammar.{after_script_lines, whole_script, script_o
 use Rattle.step_script.specs.Reading.{LacksOnlyIf}
 use Rattle.step_script.specs.GraceLines.{grace_event}
 use Rattle.step_script.specs.LockLines.{lock_event}
-use Rattle.step_script.specs.Lines.{is_header, is_passed_over, speaks, text_speaks, line_speaks, read_core, said_to, said_after, said_by, said_in, script_with, with_said, after_script_line}
+use Rattle.step_script.specs.Lines.{is_passed_over, speaks, text_speaks, line_speaks, read_core, said_to, said_after, said_by, said_in, script_with, with_said, after_script_line}
 
 -- ---- a line that leaves no core says nothing, and none was named before
 
@@ -84,13 +84,17 @@ in_none : (script : Option Script) (number : ℕ) (text : List ℕ) (words : Lis
 unfolding said_in
 in_none script number text words e = by_number (nat_eq number 1) e
   where
+    header : Bool
+    header = is_header (codes "vmasteps") (codes "1") words
+
     by_header : (b : Bool) → (if b then Ok (said.Nothing script) else Err Header) ≡ Ok (said.Nothing None) → script ≡ None
     by_header true e = cc
     by_header false e = absurd cc
 
-    by_number : (b : Bool) → (if b then (if is_header words then Ok (said.Nothing script) else Err Header) else said_by script text words) ≡ Ok (said.Nothing None)
+    by_number : (b : Bool) → (if b then (if header then Ok (said.Nothing script) else Err Header) else said_by script text words)
+        ≡ Ok (said.Nothing None)
         → IsSilent script (not b && not (is_passed_over words))
-    by_number true e = (by_header (is_header words) e, refl)
+    by_number true e = (by_header header e, refl)
     by_number false e = below_none script text words e
 
 silent : (script : Option Script) (line : RawLine) → after_script_line script line ≡ Ok None → IsSilent script (line_speaks line)
@@ -107,34 +111,6 @@ silent script line e = by_text (text_of line) e
         → IsSilent script (text_speaks line.number read)
     by_text (Ok text) e = by_said text (said_in script line.number text (words_of text)) refl e
     by_text (Err cause) e = absurd cc
-
--- ---- the number of the line that is bad first
-
-bad_from : {S A : Type 0} (number : ℕ) (r : Result S Cause) (rest : S → Result A BadLine) (first : BadLine) → at_line number r rest ≡ Err first
-    → ((next : S) → rest next ≡ Err first → number ≤ first.line) → number ≤ first.line
-bad_from number (Ok next) rest first e later = later next e
-bad_from number (Err cause) rest first e later =
-    let same : bad_line number cause ≡ first = cc in omega (arith, ap (λ (f : BadLine). f.line) same)
-
-pieces_bad : (script : Option Script) (number start : ℕ) (pieces : List (List ℕ)) (first : BadLine)
-    → after_script_lines script (lines_of_pieces number start pieces) ≡ Err first → number ≤ first.line
-pieces_bad script number start [] first e = absurd cc
-pieces_bad script number start (text ∷ []) first e = last (nat_eq (length text) 0) e
-  where
-    last : (b : Bool) → after_script_lines script (if b then [] else raw_line number start text false ∷ []) ≡ Err first → number ≤ first.line
-    last true e = absurd cc
-    last false e = bad_from number (after_script_line script (raw_line number start text false)) (λ after. after_script_lines after []) first e
-        (λ after good. absurd (cc good))
-pieces_bad script number start (text ∷ next ∷ pieces) first e =
-    bad_from number (after_script_line script (raw_line number start text true))
-    (λ after. after_script_lines after (lines_of_pieces (number + 1) (start + length text + 1) (next ∷ pieces))) first e
-    (λ after later. omega (arith, pieces_bad after (number + 1) (start + length text + 1) (next ∷ pieces) first later))
-
--- lines count on from the number of their first, and so does the one that is bad first
-lines_bad : (script : Option Script) (number start : ℕ) (bytes : List ℕ) (first : BadLine)
-    → after_script_lines script (lines_from number start bytes) ≡ Err first → number ≤ first.line
-unfolding lines_from
-lines_bad script number start bytes first e = pieces_bad script number start (slice_split is_newline bytes) first e
 
 -- ---- a core that was named stays
 
@@ -183,7 +159,7 @@ named_below script lines line number start rest all so_far parts numbered begun 
         → IfErr (whole_script read) (λ first. 1 < first.line)
     by_all core (Ok (Some next)) is = tt
     by_all core (Ok None) is = absurd (keeps_core core more is)
-    by_all core (Err first) is = omega (arith, lines_bad (Some core) (number + 1) start rest first is)
+    by_all core (Err first) is = omega (arith, lines_bad after_script_line (Some core) (number + 1) start rest first is)
 
     by_line : (read : Result (Option Script) Cause) → after_script_line script line ≡ read → IfErr (whole_script all) (λ first. 1 < first.line)
     by_line (Err cause) is =

@@ -1,7 +1,7 @@
 pub mod RowWords
 pub mod LockSteps
 pub mod GraceSteps
-mod FirstWords
+mod PassedOver
 mod FirstLine
 pub mod Scripts
 pub mod NoRefusals

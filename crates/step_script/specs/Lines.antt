@@ -4,7 +4,7 @@ use Rattle.text_lexer.specs.declared.error.Cause.{Cause}
 use Rattle.text_lexer.specs.declared.error.Cause.TheVariants.{Header, Word, Arity, TooMany}
 use Rattle.text_lexer.specs.Causes.{◌>>=◌}
 use Rattle.text_lexer.specs.Lines.{text_of, RawLine}
-use Rattle.text_lexer.specs.Words.{is_comment, words_of}
+use Rattle.text_lexer.specs.Words.{is_comment, is_header, words_of}
 use Rattle.step_script.specs.declared.lines.Said.{Said}
 use Rattle.step_script.specs.declared.lines.Said.TheVariants as said
 use Rattle.step_script.specs.declared.script.Counts.{Counts}
@@ -15,11 +15,6 @@ use Rattle.step_script.specs.Fields.{read_count}
 use Rattle.step_script.specs.GraceLines.{grace_event, is_publish}
 use Rattle.step_script.specs.LockLines.{lock_event, is_end}
 use Rattle.step_script.specs.Scripts.{without_events, with_event}
-
--- `vmasteps 1`
-unfoldable pub is_header : List (List ℕ) → Bool
-is_header (name ∷ version ∷ []) = bytes_eq name (codes "vmasteps") && bytes_eq version (codes "1")
-is_header _ = false
 
 -- how many readers there are, and slots or rows, by these words
 unfoldable pub read_counts : List ℕ → List ℕ → Result Counts Cause
@@ -96,9 +91,9 @@ unfoldable pub said_by : Option Script → List ℕ → List (List ℕ) → Resu
 said_by script text [] = Ok (said.Nothing script)
 said_by script text (name ∷ words) = said_after script text name words
 
--- by its number: line 1 is the header, which says nothing
+-- by its number: line 1 is the header, `vmasteps 1`, which says nothing
 unfoldable pub said_in : Option Script → ℕ → List ℕ → List (List ℕ) → Result Said Cause
-said_in script number text words = if nat_eq number 1 then (if is_header words then Ok (said.Nothing script) else Err Header)
+said_in script number text words = if nat_eq number 1 then (if is_header (codes "vmasteps") (codes "1") words then Ok (said.Nothing script) else Err Header)
     else said_by script text words
 
 -- whether a line says an event of a core

@@ -1,10 +1,9 @@
 //! What one line does to the script so far.
 
 ghost use Rattle.std.specs.Prelude.{◌≡◌, ◌+◌, ◌≤◌, false, true, not, IfOk, map};
-ghost use Rattle.std.specs.List.{before_first};
 ghost use Rattle.text_lexer.specs.Reading.{Gives, GivesTested, ReadsAs, line_view};
-ghost use Rattle.text_lexer.specs.Words.{is_blank, words_of};
-ghost use Rattle.step_script.specs.Lines.{is_header, is_passed_over, speaks, line_speaks, has_event, read_counts, counts_of, read_core, may_take_memory, said_to, said_by, said_in, with_said, after_script_line};
+ghost use Rattle.text_lexer.specs.Words.{words_of};
+ghost use Rattle.step_script.specs.Lines.{is_passed_over, speaks, line_speaks, has_event, read_counts, counts_of, read_core, may_take_memory, said_to, said_by, said_in, with_said, after_script_line};
 ghost use Rattle.step_script.specs.Reading.{LacksOnlyIf};
 ghost use Rattle.step_script.specs.Values.{AreCounts, IsScript, IsSoFar, IsSaid};
 
@@ -16,7 +15,7 @@ use grace_core::GraceEvent;
 use lock_core::LockEvent;
 use std::alloc::Global;
 use text_lexer::{
-    CallError, Cause, RawLine, is_comment, is_name, text_after_words, text_of, words_of,
+    CallError, Cause, RawLine, is_comment, is_header, text_after_words, text_of, words_of,
 };
 
 /// What a line says, with the script so far to which it says it.
@@ -94,36 +93,11 @@ fn said_in(
     if number != 1 {
         return said_by(alloc, script, number, text);
     }
-    if is_header(text) {
+    if is_header(text, "vmasteps", "1") {
         Ok(Said::Nothing(script))
     } else {
         Err(CallError::Bad(Cause::Header))
     }
-}
-
-/// Whether a text is that of the first line. No list of its words is made.
-fn is_header(text: &str) -> bool
-    ensures { result ≡ is_header (words_of text.now) }
-{
-    let name = first_word(text_after_words(text, 0));
-    if !is_name(name, "vmasteps") {
-        return false;
-    }
-    let version = first_word(text_after_words(text, 1));
-    is_name(version, "1") && text_after_words(text, 2).is_empty()
-}
-
-/// What stands before the first blank of a text.
-fn first_word(text: &str) -> &str
-    ensures { result.now ≡ before_first is_blank text.now }
-{
-    let len = text
-        .as_bytes()
-        .iter()
-        .position(|byte| *byte == b' ' || *byte == b'\t')
-        .unwrap_or(text.len());
-    let (word, _) = text.split_at(len);
-    word
 }
 
 /// What a line below the header says: nothing where it is passed over, which is seen before its words take memory.

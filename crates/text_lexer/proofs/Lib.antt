@@ -6,3 +6,5 @@ pub mod RawReading
 pub mod RawLaws
 pub mod Beginnings
 pub mod FirstBad
+pub mod FirstWords
+pub mod FirstLine

@@ -1,5 +1,5 @@
 -- The words of a line.
-use Rattle.std.specs.Prelude.{ℕ, zero, suc, Bool, false, not, ◌||◌, List, [], ◌∷◌, length, drop, filter, nat_eq}
+use Rattle.std.specs.Prelude.{ℕ, zero, suc, Bool, false, not, ◌&&◌, ◌||◌, List, [], ◌∷◌, length, drop, filter, nat_eq, bytes_eq}
 use Rattle.std.specs.Char.{is_ascii_digit}
 use Rattle.std.specs.List.{slice_split, position_or_len}
 use Rattle.std.specs.Str.{byte}
@@ -32,6 +32,11 @@ after_word text = drop (position_or_len is_blank text) text
 unfoldable pub text_after_words : ℕ → List ℕ → List ℕ
 text_after_words zero text = after_blanks text
 text_after_words (suc count) text = text_after_words count (after_word (after_blanks text))
+
+-- whether words are the header of a format: its name and a version
+unfoldable pub is_header : List ℕ → List ℕ → List (List ℕ) → Bool
+is_header format version (first ∷ second ∷ []) = bytes_eq first format && bytes_eq second version
+is_header format version _ = false
 
 -- whether a word begins with `#`
 unfoldable pub is_comment : List ℕ → Bool

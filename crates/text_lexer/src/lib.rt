@@ -41,4 +41,7 @@ pub use laws::{input_limits, lines_are_the_bytes};
 pub use limits::{INPUT_LIMIT, LINE_LIMIT};
 pub use lines::{RawLine, first_line, text_of, text_within};
 pub use numbers::{decimal_of, digits_of, lower_hexadecimal_of, number, number_in, number_of};
-pub use words::{begins_with_digit, is_comment, is_name, set_words, text_after_words, words_of};
+pub use words::{
+    begins_with_digit, first_word, is_comment, is_header, is_name, set_words, text_after_words,
+    words_of,
+};

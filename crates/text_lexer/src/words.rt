@@ -3,7 +3,7 @@
 ghost use Rattle.std.specs.Prelude.{◌≡◌, ◌+◌, ◌<◌, ◌≤◌, IfOk, OnErr, OnOk, bytes_eq, drop, length, map, nat_le, take, vec_capacity};
 ghost use Rattle.std.specs.List.{position_or_len, before_first};
 ghost use Rattle.std.specs.Str.{byte};
-ghost use Rattle.text_lexer.specs.Words.{is_blank, is_part, words_of, after_blanks, after_word, text_after_words, is_comment, begins_with_digit};
+ghost use Rattle.text_lexer.specs.Words.{is_blank, is_part, words_of, after_blanks, after_word, text_after_words, is_header, is_comment, begins_with_digit};
 
 use std::alloc::{AllocError, Global};
 use std::simd::prelude::*;
@@ -142,6 +142,30 @@ pub fn text_after_words(text: &str, count: usize) -> &str
         rest = after;
     }
     after_blanks(rest)
+}
+
+/// What stands before the first blank of a text.
+pub fn first_word(text: &str) -> &str
+    ensures { result.now ≡ before_first is_blank text.now }
+{
+    let (word, _) = split_word(text);
+    word
+}
+
+/// Whether a text is the header of a format: two words, which are the name of the format and this version. No list of its words is made.
+pub fn is_header(text: &str, format: &str, version: &str) -> bool
+    ensures { result ≡ is_header format.now version.now (words_of text.now) }
+{
+    let behind = text_after_words(text, 1);
+    if behind.is_empty() {
+        return false;
+    }
+    let first = first_word(text_after_words(text, 0));
+    if !is_name(first, format) {
+        return false;
+    }
+    let second = first_word(behind);
+    is_name(second, version) && text_after_words(text, 2).is_empty()
 }
 
 /// Whether a word begins with `#`, which makes a line a comment where it is the first.

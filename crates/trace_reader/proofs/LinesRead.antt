@@ -17,9 +17,9 @@ use Rattle.trace_reader.specs.declared.trace.Op.{Op}
 use Rattle.trace_reader.specs.declared.trace.TraceLine.{TraceLine}
 use Rattle.text_lexer.specs.BadLines.{bad_line, at_line}
 use Rattle.trace_reader.specs.Grammar.{nothing, after_trace_lines, lines_read, trace_so_far, whole_trace, trace_of}
-use Rattle.trace_reader.specs.Lines.{SoFar, version_numbered, read_version, with_header, names_rightly, forks_rightly, is_full, with_one, with_line, after_words, after_trace_line}
+use Rattle.trace_reader.specs.Lines.{SoFar, read_version, with_header, names_rightly, forks_rightly, is_full, with_one, with_line, after_words, after_trace_line}
 use Rattle.text_lexer.specs.Lines.{input_limit, raw_line, is_newline, is_longer_than, text_within, lines_of_pieces, lines_from}
-use Rattle.text_lexer.specs.Words.{is_comment, begins_with_digit, words_of}
+use Rattle.text_lexer.specs.Words.{is_comment, is_header, begins_with_digit, words_of}
 use Rattle.text_lexer.specs.Lines as lines
 use Rattle.trace_reader.specs.Values.{is_maps, child_of}
 use Rattle.text_lexer.proofs.RawPieces.{lines_from-nil}
@@ -191,7 +191,7 @@ header-shown : All IsShown (codes "vmatrace 1")
 header-shown = shown_from_test (codes "vmatrace 1") refl
 
 header-reads : after_trace_line nothing (raw_line 1 0 (codes "vmatrace 1") true) ≡ Ok nothing
-unfolding after_trace_line with_header read_version version_numbered words_of input_limit
+unfolding after_trace_line with_header read_version is_header words_of input_limit
 header-reads = rw (text_of-utf8 1 0 (codes "vmatrace 1") (shown-utf8 (codes "vmatrace 1") header-shown) (lit≤ tt) (lit≤ tt)) refl
 
 -- below the header stand the lines from number 2 on

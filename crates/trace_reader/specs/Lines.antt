@@ -17,7 +17,7 @@ use Rattle.trace_reader.specs.Operations.{read_line}
 use Rattle.text_lexer.specs.Lines.{RawLine, text_of}
 use Rattle.trace_reader.specs.Settings.{limit_of, bound_of, read_file}
 use Rattle.trace_reader.specs.Values.{is_call_op, is_maps, child_of}
-use Rattle.text_lexer.specs.Words.{words_of, text_after_words, is_comment, begins_with_digit}
+use Rattle.text_lexer.specs.Words.{words_of, text_after_words, is_header, is_comment, begins_with_digit}
 
 -- whether a test holds of the value of an option, where it has one
 abbrev pub all_some : (ℕ → Bool) → Option ℕ → Bool
@@ -38,15 +38,10 @@ pub record SoFar : Type 0 where
   pub maps : ℕ
   pub named : ℕ
 
--- the version of this number
-unfoldable pub version_numbered : List ℕ → Option Version
-version_numbered word = if bytes_eq word (codes "1") then Some Narrow
-    else (if bytes_eq word (codes "2") then Some Wide else None)
-
 -- the version of the header: `vmatrace 1` or `vmatrace 2`
 unfoldable pub read_version : List (List ℕ) → Option Version
-read_version (name ∷ number ∷ []) = if bytes_eq name (codes "vmatrace") then version_numbered number else None
-read_version _ = None
+read_version words = if is_header (codes "vmatrace") (codes "1") words then Some Narrow
+    else (if is_header (codes "vmatrace") (codes "2") words then Some Wide else None)
 
 -- the first line
 unfoldable pub with_header : SoFar → List (List ℕ) → Result SoFar Cause

@@ -1,11 +1,12 @@
 //! A trace while its lines are read.
 
-ghost use Rattle.std.specs.Prelude.{◌≡◌, IfErr, IfOk, map, is_some, nat_eq, vec_capacity};
+ghost use Rattle.std.specs.Prelude.{◌≡◌, ◌≢◌, Err, IfErr, IfOk, map, is_some, nat_eq, vec_capacity};
 ghost use Rattle.std.specs.List.{list_any};
 ghost use Rattle.trace_reader.specs.Grammar.{nothing, address_limit, config_of, trace_so_far};
 ghost use Rattle.text_lexer.specs.Reading.{Gives, GivesTested, ReadsAs, line_view};
+ghost use Rattle.text_lexer.specs.Words.{words_of};
 ghost use Rattle.trace_reader.specs.Reading.{HasRoomForWords, StaysIfBad, config_named, so_far};
-ghost use Rattle.trace_reader.specs.Lines.{version_numbered, read_version, has_child, is_told, may_name, may_fork, names_rightly, forks_rightly, is_full, has_descriptor, with_header, with_line, with_limit, with_top, with_min, with_heap, with_file, after_setting, after_words, after_text, after_trace_line};
+ghost use Rattle.trace_reader.specs.Lines.{read_version, has_child, is_told, may_name, may_fork, names_rightly, forks_rightly, is_full, has_descriptor, with_header, with_line, with_limit, with_top, with_min, with_heap, with_file, after_setting, after_words, after_trace_line};
 ghost use Rattle.trace_reader.specs.Settings.{with_path};
 ghost use Rattle.trace_reader.specs.Values.{AreNumbered, is_call_op, is_maps, child_of};
 
@@ -16,7 +17,8 @@ use crate::trace::{Lines, Op, Trace, TraceLine};
 use mm_types::{ADDRESS_LIMIT, Config, FileRow, Files, MOST_FILES, NoMemory, WIDE_LIMIT};
 use std::alloc::Global;
 use text_lexer::{
-    CallError, Cause, RawLine, begins_with_digit, is_comment, set_words, text_after_words, text_of,
+    CallError, Cause, RawLine, begins_with_digit, is_comment, is_header, set_words,
+    text_after_words, text_of,
 };
 
 /// The words of a `file` line before its path.
@@ -81,12 +83,12 @@ impl TraceBuilder {
         }
     }
 
-    /// Adds a line: that of number 1 is the header, and each later one has a greater number. Its bytes are tested before its words,
-    /// which come into `words`, a list that serves for every line.
+    /// Adds a line: that of number 1 is the header, and each later one has a greater number. Its bytes are tested before its words. Those
+    /// of a line below the header come into `words`, a list that serves for every line.
     ///
     /// `CallError::Bad` comes where the line is bad behind those so far, with its cause, and then nothing changes: another may be
     /// added in its place. `CallError::NoMemory` comes where memory runs out, and what the builder holds then is not known. Where
-    /// `words` has room for the words of the line, it comes only where the line is good.
+    /// `words` has room for the words of the line, it comes only where the line is good. The header takes no memory.
     #[tactic(auto, unfolding(crate::specs::Lines::after_trace_line))]
     pub fn add<'a>(
         &mut self,
@@ -99,39 +101,23 @@ impl TraceBuilder {
         ensures kept { StaysIfBad result (so_far self.old) (so_far self.new) }
         ensures tested { HasRoomForWords (vec_capacity words.old) (line_view line.now)
             → GivesTested (λ _. so_far self.new) result (after_trace_line (so_far self.old) (line_view line.now)) }
+        ensures header { line.now.number ≡ 1 → result ≢ Err CallError.NoMemory }
     {
         let text = text_of(line)?;
-        set_words(words, text)?;
-        self.add_text(alloc, line.number, text, words.as_slice())
-    }
-
-    /// Adds the line of this number, by its text and the words of it.
-    fn add_text(
-        &mut self,
-        alloc: Global,
-        number: u64,
-        text: &str,
-        words: &[&str],
-    ) -> Result<(), CallError>
-        requires { AreNumbered self.old.lines.items }
-        ensures added { GivesTested (λ _. so_far self.new) result
-            (after_text (so_far self.old) number text.now (map (λ word. word.now) words.now)) }
-        ensures kept { StaysIfBad result (so_far self.old) (so_far self.new) }
-    {
-        if number == 1 {
-            Ok(self.set_version(words)?)
-        } else {
-            self.add_words(alloc, number, text, words)
+        if line.number == 1 {
+            return Ok(self.set_version(text)?);
         }
+        set_words(words, text)?;
+        self.add_words(alloc, line.number, text, words.as_slice())
     }
 
-    /// Adds the header.
+    /// Sets the version that the header names.
     #[tactic(auto, unfolding(crate::specs::Lines::with_header))]
-    fn set_version(&mut self, words: &[&str]) -> Result<(), Cause>
-        ensures added { ReadsAs (λ _. so_far self.new) result (with_header (so_far self.old) (map (λ word. word.now) words.now)) }
+    fn set_version(&mut self, text: &str) -> Result<(), Cause>
+        ensures added { ReadsAs (λ _. so_far self.new) result (with_header (so_far self.old) (words_of text.now)) }
         ensures kept { IfErr result (λ _. so_far self.new ≡ so_far self.old) }
     {
-        match version_of(words) {
+        match version_of(text) {
             Some(version) => {
                 self.settings.version = version;
                 Ok(())
@@ -382,26 +368,17 @@ fn config_named(settings: Settings, files: Files) -> Config
     config
 }
 
-/// The version that the words of the first line name: `vmatrace 1` or `vmatrace 2`.
+/// The version that the text of the first line names: `vmatrace 1` or `vmatrace 2`.
 #[tactic(auto, unfolding(crate::specs::Lines::read_version))]
-fn version_of(words: &[&str]) -> Option<Version>
-    ensures { result ≡ read_version (map (λ word. word.now) words.now) }
+fn version_of(text: &str) -> Option<Version>
+    ensures { result ≡ read_version (words_of text.now) }
 {
-    match words {
-        [name, number] if *name == "vmatrace" => version_numbered(number),
-        _ => None,
-    }
-}
-
-/// The version of this number.
-#[tactic(auto, unfolding(crate::specs::Lines::version_numbered))]
-fn version_numbered(word: &str) -> Option<Version>
-    ensures { result ≡ version_numbered word.now }
-{
-    match word {
-        "1" => Some(Version::Narrow),
-        "2" => Some(Version::Wide),
-        _ => None,
+    if is_header(text, "vmatrace", "1") {
+        Some(Version::Narrow)
+    } else if is_header(text, "vmatrace", "2") {
+        Some(Version::Wide)
+    } else {
+        None
     }
 }
 

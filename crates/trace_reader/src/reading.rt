@@ -1,9 +1,8 @@
-ghost use Rattle.std.specs.Prelude.{◌≡◌, Err, length};
-ghost use Rattle.text_lexer.specs.declared.error.Cause.TheVariants.{Header};
+ghost use Rattle.std.specs.Prelude.{◌≡◌, Err};
+ghost use Rattle.text_lexer.specs.declared.error.BadLine.{BadLine};
 ghost use Rattle.text_lexer.specs.BadLines.{bad_line};
 ghost use Rattle.trace_reader.specs.Grammar.{trace_of, lines_read};
 ghost use Rattle.trace_reader.specs.Reading.{GivesLines, GivesTrace};
-ghost use Rattle.text_lexer.specs.Reading.{error_at};
 
 use crate::builder::TraceBuilder;
 use crate::trace::Trace;
@@ -17,10 +16,11 @@ fn bad(line: u64, cause: Cause) -> ReadError
     ReadError::Bad(BadLine { line, cause })
 }
 
-/// What the lines of some bytes say, or the first of them that is bad.
+/// What the lines of some bytes say, or the first of them that is bad. Line 1 is told whatever the memory.
 #[tactic(auto, unfolding(crate::specs::Grammar::lines_read))]
 fn read_lines(alloc: Global, bytes: &[u8]) -> Result<TraceBuilder, ReadError>
-    ensures { GivesLines result (lines_read bytes.now) }
+    ensures lines { GivesLines result (lines_read bytes.now) }
+    ensures first { (first : BadLine) → lines_read bytes.now ≡ Err first → first.line ≡ 1 → result ≡ Err (ReadError.Bad first) }
 {
     let mut builder = TraceBuilder::new(alloc);
     let mut words = Vec::new(alloc);
@@ -37,11 +37,11 @@ fn read_lines(alloc: Global, bytes: &[u8]) -> Result<TraceBuilder, ReadError>
     Ok(builder)
 }
 
-/// The trace that the bytes are, or the first bad line and its cause. No bytes take no memory.
+/// The trace that the bytes are, or the first bad line and its cause. Where line 1 is named, as with no bytes, no memory is taken.
 #[tactic(auto, unfolding(crate::specs::Grammar::trace_of))]
 pub fn read(alloc: Global, bytes: &[u8]) -> Result<Trace, ReadError>
     ensures trace { GivesTrace result (trace_of bytes.now) }
-    ensures empty { length bytes.now ≡ 0 → result ≡ Err (ReadError.Bad (bad_line 1 Header)) }
+    ensures first { (first : BadLine) → trace_of bytes.now ≡ Err first → first.line ≡ 1 → result ≡ Err (ReadError.Bad first) }
 {
     if bytes.is_empty() {
         return Err(bad(1, Cause::Header));

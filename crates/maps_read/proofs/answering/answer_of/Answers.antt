@@ -1,5 +1,5 @@
 -- For `answer_of`: its goals.
-use Rattle.maps_read.proofs.FirstLine.{error_handed_on}
+use Rattle.text_lexer.proofs.FirstLine.{error_handed_on}
 use Rattle.maps_read.proofs.answering.answer_of.Goals as goal
 
 pub returns-clause-first : goal.returns-clause-first

@@ -2,10 +2,10 @@
 use Rattle.std.proofs.Common.{◌≡◌, ◌∙◌, length, Ok, Err, ap, sym, arith}
 use Rattle.std.proofs.lemmas.Bool.Decides.{nat_tests}
 use Rattle.text_lexer.specs.Reading.{line_view}
+use Rattle.text_lexer.proofs.FirstLine.{first_told, tested_fails}
 use Rattle.text_lexer.proofs.RawReading.{none_left}
 use Rattle.maps_read.specs.Maps.{after_maps_line, maps_of}
 use Rattle.maps_read.proofs.Bytes.{maps_in_order}
-use Rattle.maps_read.proofs.FirstLine.{first_told}
 use Rattle.maps_read.proofs.reading.read_maps.Goals as goal
 
 pub of-requires : goal.of-requires
@@ -23,9 +23,11 @@ pub returns-in-Err-clause-empty : goal.returns-in-Err-clause-empty
 returns-in-Err-clause-empty c = λ none. absurd (omega (arith, c.first_line.ensures.shorter, c.loop-rest.invariant.within))
 
 pub returns-in-Err-clause-first : goal.returns-in-Err-clause-first
-returns-in-Err-clause-first c = λ first is one. ap Err (c.error_at.ensures ∙ first_told after_maps_line c.loop-rest.lines.items _ (line_view c.first_line.result.0)
-    c.loop-rest.number _ c.first_line.result.1.now c.in-Err.error (maps_of c.args.bytes.now) first c.loop-rest.invariant.read c.first_line.ensures.line
-    c.first_line.ensures.number c.in-Err.ensures c.loop-rest.invariant.begun is one)
+returns-in-Err-clause-first c = λ first is one. ap Err (c.error_at.ensures ∙ first_told after_maps_line c.loop-rest.lines.items (line_view c.first_line.result.0)
+    c.loop-rest.number _ _ c.loop-rest.rest.now c.first_line.result.1.now c.in-Err.error (maps_of c.args.bytes.now) first c.loop-rest.invariant.read
+    c.first_line.ensures.line c.first_line.ensures.number
+    (tested_fails c.in-Err.error (after_maps_line c.loop-rest.lines.items (line_view c.first_line.result.0)) c.in-Err.ensures) (λ number. c.in-Err.ensures)
+    c.loop-rest.invariant.begun is one)
 
 pub returns-clause-first : goal.returns-clause-first
 returns-clause-first c =

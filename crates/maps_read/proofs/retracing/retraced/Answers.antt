@@ -1,5 +1,5 @@
 -- For `retraced`: its goals.
-use Rattle.maps_read.proofs.FirstLine.{error_handed_on}
+use Rattle.text_lexer.proofs.FirstLine.{error_handed_on}
 use Rattle.maps_read.proofs.retracing.retraced.Goals as goal
 
 pub returns-clause-first : goal.returns-clause-first

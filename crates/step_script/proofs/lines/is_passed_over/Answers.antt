@@ -1,6 +1,6 @@
 -- For `is_passed_over`: its goals.
 use Rattle.std.proofs.Common.{◌∙◌, sym, refl}
-use Rattle.step_script.proofs.FirstWords.{passed_found}
+use Rattle.step_script.proofs.PassedOver.{passed_found}
 use Rattle.step_script.proofs.lines.is_passed_over.Goals as goal
 
 pub returns-then-is_empty : goal.returns-then-is_empty

@@ -1,5 +1,5 @@
 -- For `read_lines`: what each loop keeps.
-use Rattle.std.proofs.Common.{◌≡◌, ◌+◌, ◌-◌, ◌≤◌, length}
+use Rattle.std.proofs.Common.{◌≡◌, ◌+◌, ◌-◌, ◌<◌, ◌≤◌, length}
 use Rattle.trace_reader.specs.Grammar.{after_trace_lines, lines_read}
 use Rattle.text_lexer.specs.Lines.{lines_from}
 use Rattle.trace_reader.specs.Reading.{so_far}
@@ -13,6 +13,7 @@ invariant-loop-rest l = record {
       (length l.bytes - length l.rest) l.rest) ≡ lines_read l.bytes;
   known : IsSoFar l.number (so_far l.builder);
   within : length l.rest ≤ length l.bytes;
+  begun : 0 < l.number;
   counted : l.number ≤ 1 + (length l.bytes - length l.rest);
 }
 

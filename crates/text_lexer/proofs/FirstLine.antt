@@ -1,4 +1,4 @@
--- For `read_maps` and `answer_of`: where line 1 is bad, that is told whatever the memory.
+-- For readers that tell a bad line 1 whatever the memory: lines count on from the number of their first, and so does the one that is bad first.
 use Rattle.std.proofs.Common.{◌≡◌, ℕ, ◌+◌, ◌<◌, ◌≤◌, Bool, true, false, nat_eq, List, [], ◌∷◌, length, IsOk, IfErr, Result, Ok, Err, if◌then◌else◌, refl, ap, ◌∙◌, subst, arith}
 use Rattle.std.specs.List.{slice_split}
 use Rattle.text_lexer.specs.declared.error.BadLine.{BadLine}
@@ -9,7 +9,7 @@ use Rattle.text_lexer.specs.declared.error.ReadError.{ReadError}
 use Rattle.text_lexer.specs.declared.error.ReadError.TheVariants as reads
 use Rattle.text_lexer.specs.BadLines.{bad_line, at_line, lines_leave}
 use Rattle.text_lexer.specs.Lines.{RawLine, raw_line, is_newline, lines_of_pieces, lines_from}
-use Rattle.text_lexer.specs.Reading.{FailsLast, error_at}
+use Rattle.text_lexer.specs.Reading.{Fails, FailsLast, error_at}
 use Rattle.text_lexer.proofs.RawReading.{first_bad, first_good}
 
 -- the number of the line that is bad first: that of the line at hand, or one of those behind it
@@ -32,8 +32,7 @@ pieces_bad step before number start (text ∷ next ∷ pieces) first e =
     (λ after. lines_leave step after (lines_of_pieces (number + 1) (start + length text + 1) (next ∷ pieces))) first e
     (λ after later. omega (arith, pieces_bad step after (number + 1) (start + length text + 1) (next ∷ pieces) first later))
 
--- lines count on from the number of their first, and so does the one that is bad first
-lines_bad : {S : Type 0} (step : S → RawLine → Result S Cause) (before : S) (number start : ℕ) (bytes : List ℕ) (first : BadLine)
+pub lines_bad : {S : Type 0} (step : S → RawLine → Result S Cause) (before : S) (number start : ℕ) (bytes : List ℕ) (first : BadLine)
     → lines_leave step before (lines_from number start bytes) ≡ Err first → number ≤ first.line
 unfolding lines_from
 lines_bad step before number start bytes first e = pieces_bad step before number start (slice_split is_newline bytes) first e
@@ -42,21 +41,28 @@ good_ok : {S : Type 0} (r : Result S Cause) → IsOk r → (next : S) × (r ≡ 
 good_ok (Ok next) good = (next, refl)
 good_ok (Err cause) good = absurd (cc good)
 
--- where the first bad line is line 1, an error at a line whose tests all come before memory is taken is that line's cause
-pub first_told : {S : Type 0} (step : S → RawLine → Result S Cause) (before : S) (lines : List RawLine) (line : RawLine) (number start : ℕ) (rest : List ℕ)
+-- a cause is that of the definition also where memory may run out before a test
+pub tested_fails : {Y : Type 0} (error : CallError) (read : Result Y Cause) → FailsLast error read → Fails error read
+tested_fails (calls.Bad cause) read fails = fails
+tested_fails calls.NoMemory read good = tt
+
+-- where the first bad line is line 1, an error at a line is that line's cause, if all tests of line 1 come before memory is taken
+pub first_told : {S : Type 0} (step : S → RawLine → Result S Cause) (before : S) (line : RawLine) (number start from : ℕ) (bytes rest : List ℕ)
     (error : CallError) (all : Result S BadLine) (first : BadLine)
-    → lines_leave step before lines ≡ all → lines ≡ line ∷ lines_from (number + 1) start rest → line.number ≡ number
-    → FailsLast error (step before line) → 0 < number → all ≡ Err first → first.line ≡ 1 → error_at number error ≡ reads.Bad first
-first_told step before lines line number start rest (calls.Bad cause) all first so_far parts numbered fails begun is one =
+    → lines_leave step before (lines_from number start bytes) ≡ all → lines_from number start bytes ≡ line ∷ lines_from (number + 1) from rest
+    → line.number ≡ number → Fails error (step before line) → (number ≡ 1 → FailsLast error (step before line)) → 0 < number
+    → all ≡ Err first → first.line ≡ 1 → error_at number error ≡ reads.Bad first
+first_told step before line number start from bytes rest (calls.Bad cause) all first so_far parts numbered fails tested begun is one =
     let told : all ≡ Err (bad_line number cause) =
-    first_bad step before lines (lines_from (number + 1) start rest) line cause all number so_far parts numbered fails in
+    first_bad step before (lines_from number start bytes) (lines_from (number + 1) from rest) line cause all number so_far parts numbered fails in
     let same : bad_line number cause ≡ first = cc in
     ap reads.Bad same
-first_told step before lines line number start rest calls.NoMemory all first so_far parts numbered good begun is one =
-    let next = good_ok (step before line) good in
-    let later : lines_leave step next.0 (lines_from (number + 1) start rest) ≡ Err first =
-    first_good step before next.0 lines (lines_from (number + 1) start rest) line all so_far parts next.1 ∙ is in
-    absurd (omega (arith, lines_bad step next.0 (number + 1) start rest first later))
+first_told step before line number start from bytes rest calls.NoMemory all first so_far parts numbered fails tested begun is one =
+    let low : number ≤ first.line = lines_bad step before number start bytes first (so_far ∙ is) in
+    let next = good_ok (step before line) (tested (omega (arith, low, one))) in
+    let later : lines_leave step next.0 (lines_from (number + 1) from rest) ≡ Err first =
+    first_good step before next.0 (lines_from number start bytes) (lines_from (number + 1) from rest) line all so_far parts next.1 ∙ is in
+    absurd (omega (arith, lines_bad step next.0 (number + 1) from rest first later, one))
 
 -- an error of the reading is that of the answer
 pub error_handed_on : {A B : Type 0} (read : Result A ReadError) (answer : Result B ReadError) (error : ReadError)
