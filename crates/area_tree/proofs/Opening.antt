@@ -73,10 +73,10 @@ fresh_elapsed : (areas : ℕ) (writer : NodeWriter) → IsFreshWriter areas writ
 fresh_elapsed areas writer fresh = omega (arith, elapsed_most writer, fresh_number areas writer fresh)
 
 -- what the fields of a new tree keep
-pub fresh_spans : (areas : ℕ) (writer : NodeWriter) (nodes : NodeTable) (tree : Tree) → 1 ≤ areas → areas ≤ 65530 → IsFreshWriter areas writer
+pub fresh_spans : (areas : ℕ) (writer : NodeWriter) (nodes : NodeTable) (tree : Tree) (tally : List ℕ) → 1 ≤ areas → areas ≤ 65530 → IsFreshWriter areas writer
     → WritesNodeTable writer nodes → tree.root.0 ≡ 0 → tree.height ≡ 1 → 0 < tree.limit.0
-    → IsSpanTree (record { nodes = nodes; writer = writer; tree = tree; areas = areas; number = 0; changed = false; roomy = false })
-fresh_spans areas writer nodes tree some_areas few_areas fresh writes root height some =
+    → IsSpanTree (record { nodes = nodes; writer = writer; tree = tree; areas = areas; number = 0; changed = false; roomy = false; tally = tally; published = 0 })
+fresh_spans areas writer nodes tree tally some_areas few_areas fresh writes root height some =
     let pairs = fresh_pairs areas writer tree fresh root height in
     let shown = fresh_shown areas writer fresh in
     let blank = fresh_blank areas writer tree fresh root height some in
@@ -98,24 +98,26 @@ fresh_spans areas writer nodes tree some_areas few_areas fresh writes root heigh
     }
 
 -- and what contracts see of it
-pub fresh_view : (areas : ℕ) (writer : NodeWriter) (nodes : NodeTable) (tree : Tree) (limit : Page) → IsFreshWriter areas writer
+pub fresh_view : (areas : ℕ) (writer : NodeWriter) (nodes : NodeTable) (tree : Tree) (tally : List ℕ) (limit : Page) → tally ≡ [] → IsFreshWriter areas writer
     → WritesNodeTable writer nodes → tree.root.0 ≡ 0 → tree.height ≡ 1 → tree.limit ≡ limit
-    → span_view (record { nodes = nodes; writer = writer; tree = tree; areas = areas; number = 0; changed = false; roomy = false })
+    → span_view (record { nodes = nodes; writer = writer; tree = tree; areas = areas; number = 0; changed = false; roomy = false; tally = tally; published = 0 })
     ≡ record {
       table = writer.writer_state.seat.table_id;
       areas = areas;
       limit = limit.0;
       number = 0;
+      published = 0;
       elapsed = 0;
       pairs = [];
       shown = [];
       changed = false;
       roomy = false;
       scans = 0;
+      found = [];
       pins = pins_of writer;
       free = length (free_of writer);
     }
-fresh_view areas writer nodes tree limit fresh writes root height same =
+fresh_view areas writer nodes tree tally limit none fresh writes root height same =
     let pairs = fresh_pairs areas writer tree fresh root height in
     let shown = fresh_shown areas writer fresh in
     let elapsed = fresh_elapsed areas writer fresh in

@@ -77,10 +77,10 @@ published_elapsed old new tree is =
     (published_size old new tree is) (published_since old new tree is)
 
 -- a publish keeps what the fields keep
-pub published_kept : (fields : Inside) (new : NodeWriter) → WritesNodeTable new fields.nodes → Publishes fields.writer new fields.tree
+pub published_kept : (fields : Inside) (new : NodeWriter) (published : ℕ) → WritesNodeTable new fields.nodes → Publishes fields.writer new fields.tree
     → IsSpanTree fields
-    → IsSpanTree (record fields { writer = new; number = fields.number + 1; changed = false; roomy = false })
-published_kept fields new writes is kept =
+    → IsSpanTree (record fields { writer = new; number = fields.number + 1; changed = false; roomy = false; published = published })
+published_kept fields new published writes is kept =
     let old : NodeWriter = fields.writer in
     let tree : Tree = fields.tree in
     let pairs = pairs_same old new tree (ap (λ (v : NodeView). v.known.writer_state.words) is.view) in

@@ -18,9 +18,9 @@ use Rattle.area_tree.proofs.Counts.{waiting_within, rest_free}
 use Rattle.area_tree.proofs.Writing.{shown_same, present_same, spare_more, elapsed_more, elapsed_below, pairs_same, scanned_built, scanned_writers}
 
 -- scans keep what the fields keep
-pub scanned_kept : (fields : Inside) (new : NodeWriter) → WritesNodeTable new fields.nodes → Scans fields.writer new → IsSpanTree fields
-    → IsSpanTree (record fields { writer = new })
-scanned_kept fields new writes scans kept =
+pub scanned_kept : (fields : Inside) (new : NodeWriter) (tally : List ℕ) → WritesNodeTable new fields.nodes → Scans fields.writer new → IsSpanTree fields
+    → IsSpanTree (record fields { writer = new; tally = tally })
+scanned_kept fields new tally writes scans kept =
     let old : NodeWriter = fields.writer in
     let sized : row_count new ≡ row_count old = ap (λ s. s.rows) scans.same.size in
     let shown = shown_same old new scans.same.tree scans.same.root in

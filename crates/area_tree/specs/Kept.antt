@@ -11,8 +11,8 @@ abbrev pub area_tree_view : Inside → AreaTreeView
 area_tree_view fields = record { tree = fields.tree; records = fields.records; bounds = fields.bounds; sealed = fields.sealed }
 
 -- Each slot of the tree shows an area with the pages of its pair. The count is theirs, the most areas are those of the tree,
--- and there is a record for each slot. Areas are placed up to the tree's limit, and there is room to hand them out. Before a slot
--- showed a sealed area no record is sealed.
+-- and there is a record for each slot. Areas are placed up to the tree's limit, and there is room to hand as many out as there may be,
+-- and no more. Before a slot showed a sealed area no record is sealed.
 pub record IsAreaTree (fields : Inside) : Type 0 where
   pub spans : AreRecords fields.records fields.tree.pairs
   pub counted : fields.count ≡ length fields.tree.pairs
@@ -22,5 +22,5 @@ pub record IsAreaTree (fields : Inside) : Type 0 where
   pub top : fields.bounds.top ≤ fields.bounds.limit
   pub window : WINDOW_END ≤ fields.bounds.limit
   pub empty : fields.list.items ≡ []
-  pub room : fields.tree.areas ≤ vec_capacity fields.list
+  pub room : vec_capacity fields.list ≡ fields.tree.areas
   pub unsealed : fields.sealed ≡ false → All (λ area. area.attr.sealed ≡ false) fields.records

@@ -1,3 +1,4 @@
+pub mod Tallies
 pub mod SpanTrees
 pub mod Rows
 pub mod SpanKept

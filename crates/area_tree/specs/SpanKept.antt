@@ -15,12 +15,14 @@ span_view fields = record {
   areas = fields.areas;
   limit = fields.tree.limit.0;
   number = fields.number;
+  published = fields.published;
   elapsed = elapsed_of fields.writer;
   pairs = pairs_now fields.writer fields.tree;
   shown = shown_pairs fields.writer;
   changed = fields.changed;
   roomy = fields.roomy;
   scans = (node_sight fields.writer).scans;
+  found = fields.tally;
   pins = pins_of fields.writer;
   free = length (free_of fields.writer);
 }

@@ -45,8 +45,9 @@
 //    4 N / 9 + 9 + 40 is below N / 2 + 60, which is what `prepare` waits for. The table has N + 128 rows (`rows_for` of mm_types): with the
 //    present tree's 4 N / 9 + 9 taken and no reader inside, more than N / 2 + 60 of them are free.
 //
-// That each call publishes exactly one tree. `publish` asks for an open call (`OpenCall`) as many of which ended before as trees were published.
-// So tree n is the list after n calls, and a reader that loaded tree n knows which calls it can have seen.
+// That each call publishes exactly one tree. `publish` asks for the seat of the lock's writer in an open call, before which as many ended as trees
+// were published, and remembers at which sequence it did so. So tree n is the list after n calls, and a reader that
+// loaded tree n knows which calls it can have seen.
 //
 // Tree 0 has no entries, since a new table has only zeros. The first `prepare` builds a tree of one gap, which the first call publishes.
 //
@@ -56,7 +57,6 @@
 
 #![tactic(auto)]
 
-mod call;
 mod laws;
 mod listing;
 mod placing;
@@ -64,10 +64,10 @@ mod records;
 mod resizing;
 mod shown;
 mod spans;
+mod tally;
 mod tree;
 mod waiting;
 
-pub use call::OpenCall;
 pub use laws::{pairs_are_apart, rows_suffice};
 pub use resizing::beside;
 pub use shown::ShownArea;

@@ -60,7 +60,8 @@ impl AreaTree {
         self.tree.facts();
         self.records.show(shown.slot, shown.area);
         self.sealed |= shown.area.attr.sealed;
-        self.tree.store(beside(shown.area.span, old.span), None);
+        self.tree
+            .store(self.may, beside(shown.area.span, old.span), None);
     }
 
     /// A slot of the tree shows an area with fewer pages than the one before, and a slot that shows none gets the pages that it loses: only
@@ -87,7 +88,8 @@ impl AreaTree {
         self.sealed |= shown.area.attr.sealed;
         self.records.show(other.slot, other.area);
         self.sealed |= other.area.attr.sealed;
-        self.tree.store(other.area.span, Some(Slot(other.slot)));
+        self.tree
+            .store(self.may, other.area.span, Some(Slot(other.slot)));
         self.count += 1;
     }
 
@@ -108,6 +110,7 @@ impl AreaTree {
         self.tree.facts();
         self.records.show(shown.slot, shown.area);
         self.sealed |= shown.area.attr.sealed;
-        self.tree.store(shown.area.span, Some(Slot(shown.slot)));
+        self.tree
+            .store(self.may, shown.area.span, Some(Slot(shown.slot)));
     }
 }

@@ -1,25 +1,27 @@
 //! The tree of areas.
-ghost use Rattle.std.specs.Prelude.{◌≡◌, ◌≤◌, ◌<◌, ◌+◌, ◌^◌, ◌-◌, ◌*◌, ◌∷◌, ◌++◌, ◌||◌, ℕ, true, false, nat_eq, nat_le, List, [], length, map, replicate, slice_set, All, Contains, IsPermutation, IfOk};
+ghost use Rattle.std.specs.Prelude.{◌≡◌, ◌≤◌, ◌<◌, ◌+◌, ◌^◌, ◌-◌, ◌∷◌, ◌++◌, ◌||◌, ℕ, true, false, nat_eq, nat_le, List, [], length, map, replicate, slice_set, All, Contains, IsPermutation, IfOk};
 ghost use Rattle.mm_types.specs.declared.area.Record.{Record};
 ghost use Rattle.mm_types.specs.Config.{IsValidConfig, slots_for};
 ghost use Rattle.area_list.specs.Areas.{page_of};
 ghost use Rattle.area_rules.specs.Placement.{bounds_of, is_free};
 ghost use Rattle.node_slots.specs.Seats.{pins_of, free_of, AreOut};
-ghost use Rattle.area_tree.specs.SpanTrees.{IsFreshWriter, enough};
+ghost use Rattle.vma_lock.specs.Seats.{HasOpenCall, journal, lock_sight};
+ghost use Rattle.area_tree.specs.SpanTrees.{IsFreshWriter, AreTries, enough};
 ghost use Rattle.area_tree.specs.declared.shown.ShownArea.{ShownArea};
 ghost use Rattle.maple_gap.specs.Gaps.{span_of};
 ghost use Rattle.area_tree.specs.AreaTrees.{no_area, shown_of, areas_of, areas_shown, times_shown, Adjoin, AreasRise};
 
+use crate::SpanTree;
 use crate::records::Records;
 use crate::shown::ShownArea;
-use crate::{OpenCall, SpanTree};
 use area_list::page_of;
 use area_rules::{Bounds, bounds_of};
 use mm_types::{Config, NoMemory, Page, Record, Slot, Span, slots_for};
-use node_slots::NodeWriter;
+use node_slots::{MayCount, NodeWriter};
 use std::alloc::Global;
 use std::marker::Model;
 use std::sync::Wait;
+use vma_lock::WriterSeat;
 
 /// The areas of an address space: the tree of their spans and slots, and what each slot shows. Contracts see the tree, the
 /// records by slot, and the pages between which areas are placed. It never holds two areas with a page in common.
@@ -37,6 +39,8 @@ pub struct AreaTree {
     pub(crate) sealed: bool,
     /// Where the areas are handed out in order: empty until then.
     pub(crate) list: Vec<Record>,
+    /// With it a count of the rows that are read is begun.
+    pub(crate) may: MayCount,
 }
 
 impl Model for AreaTree {
@@ -54,7 +58,7 @@ impl Model for AreaTree {
 impl AreaTree {
     /// No area, in a table of nodes that was just made, of which the writer is given: it has the rows
     /// and the slots for so many areas.
-    pub fn new(alloc: Global, config: &Config, nodes: NodeWriter) -> Result<AreaTree, NoMemory>
+    pub fn new(alloc: Global, config: &Config, mut nodes: NodeWriter) -> Result<AreaTree, NoMemory>
         requires config { IsValidConfig config.now }
         requires fresh { IsFreshWriter config.now.areas nodes }
         ensures { IfOk result (λ areas. areas ≡ record {
@@ -63,12 +67,14 @@ impl AreaTree {
             areas = config.now.areas;
             limit = page_of config.now.limit;
             number = 0;
+            published = 0;
             elapsed = 0;
             pairs = [];
             shown = [];
             changed = false;
             roomy = false;
             scans = 0;
+            found = [];
             pins = pins_of nodes;
             free = length (free_of nodes);
           };
@@ -77,6 +83,7 @@ impl AreaTree {
           sealed = false;
         }) }
     {
+        let may = nodes.may_count();
         let tree = SpanTree::new(config.areas, Page(page_of(config.limit)), nodes)?;
         Ok(AreaTree {
             tree,
@@ -86,6 +93,7 @@ impl AreaTree {
             count: 0,
             sealed: false,
             list: Vec::with_capacity(alloc, config.areas as usize)?,
+            may,
         })
     }
 
@@ -95,7 +103,8 @@ impl AreaTree {
         ensures { Contains (shown_of self.now) (record { slot = result.0; area = area.now }) }
     {
         self.tree.facts();
-        match self.tree.next_slot(Page(area.span.lo)) {
+        let mut reads = self.may.begin();
+        match self.tree.next_slot(Page(area.span.lo), &mut reads) {
             Some(slot) => slot,
             None => unreachable!(),
         }
@@ -110,7 +119,7 @@ impl AreaTree {
         ensures same { self.new ≡ record self.old { tree = record self.old.tree { pairs = self.new.tree.pairs; changed = true; free = self.new.tree.free } } }
     {
         self.tree.facts();
-        self.tree.store(area.span, None);
+        self.tree.store(self.may, area.span, None);
         self.count -= 1;
     }
 
@@ -124,7 +133,7 @@ impl AreaTree {
         ensures same { self.new ≡ record self.old { tree = record self.old.tree { pairs = self.new.tree.pairs; changed = true; free = self.new.tree.free } } }
     {
         self.tree.facts();
-        self.tree.store(span, None);
+        self.tree.store(self.may, span, None);
         self.count -= count;
     }
 
@@ -170,7 +179,8 @@ impl AreaTree {
         self.tree.facts();
         self.records.show(shown.slot, shown.area);
         self.sealed |= shown.area.attr.sealed;
-        self.tree.store(shown.area.span, Some(Slot(shown.slot)));
+        self.tree
+            .store(self.may, shown.area.span, Some(Slot(shown.slot)));
         self.count += 1;
     }
 
@@ -184,6 +194,7 @@ impl AreaTree {
             roomy = true;
             elapsed = self.new.tree.elapsed;
             scans = self.new.tree.scans;
+            found = self.new.tree.found;
             pins = self.new.tree.pins;
             free = self.new.tree.free;
           };
@@ -191,23 +202,24 @@ impl AreaTree {
         ensures elapsed { self.old.tree.elapsed ≤ self.new.tree.elapsed }
         ensures shown { self.old.tree.shown ≡ self.old.tree.pairs }
         ensures readers { length self.new.tree.pins ≡ length self.old.tree.pins }
-        // each pin is looked at once, and once more for each try after the first
-        ensures scans { (more : ℕ) × (self.new.tree.scans ≡ self.old.tree.scans + (more + 1) * length self.old.tree.pins) }
+        // each pin is looked at once, and once more for each try after the first, before which too few rows were free
+        ensures scans { (tries : List ℕ) × AreTries (enough self.old.tree.areas) self.old.tree self.new.tree tries }
         // and just once where enough rows are free already
         ensures once { enough self.old.tree.areas ≤ self.old.tree.free → self.new.tree.scans ≡ self.old.tree.scans + length self.old.tree.pins }
     {
-        self.tree.prepare(rt);
+        self.tree.prepare(rt, self.may);
     }
 
-    /// Publishes the tree in an open call: it is the present one, with the next number. So many calls ended before this one as trees
-    /// were published, so none is published twice in a call, and none between two calls.
-    pub fn publish<C: OpenCall>(&mut self, call: &C)
-        requires call { C.is_open call.now × (C.calls call.now ≡ self.old.tree.number) }
+    /// Publishes the tree in the open call of the lock's writer: it is the present one, with the next number. So many calls ended before
+    /// this one as trees were published, so none is published twice in a call, and none between two calls.
+    pub fn publish(&mut self, writer: &WriterSeat)
+        requires call { HasOpenCall writer.now × (length (journal writer.now) ≡ self.old.tree.number) }
         requires roomy { self.old.tree.roomy ≡ true }
         requires number { self.old.tree.number < 2 ^ 40 - 1 }
         ensures same { self.new ≡ record self.old {
           tree = record self.old.tree {
             number = self.old.tree.number + 1;
+            published = (lock_sight writer.now).writer_state.seq;
             shown = self.old.tree.pairs;
             changed = false;
             roomy = false;
@@ -216,7 +228,7 @@ impl AreaTree {
         } }
         ensures elapsed { self.old.tree.elapsed ≤ self.new.tree.elapsed }
     {
-        self.tree.publish(call);
+        self.tree.publish(writer);
     }
 
     /// The greatest tree, at most the present one, such that no row waits that left at its publish or before.
@@ -227,12 +239,14 @@ impl AreaTree {
         self.tree.elapsed()
     }
 
-    /// Looks at the pin of each reader once: rows that no reader may read any more are free again.
-    pub fn scan(&mut self)
+    /// Looks at the pin of each reader once: rows that no reader may read any more are free again. It notes how many of what it is for the
+    /// caller had before.
+    pub fn scan(&mut self, count: usize)
         ensures same { self.new ≡ record self.old {
           tree = record self.old.tree {
             elapsed = self.new.tree.elapsed;
             scans = self.old.tree.scans + length self.old.tree.pins;
+            found = self.old.tree.found ++ count ∷ [];
             pins = self.new.tree.pins;
             free = self.new.tree.free;
           };
@@ -242,7 +256,7 @@ impl AreaTree {
         // once it finds every reader closed, every tree's grace period has elapsed
         ensures gone { AreOut self.new.tree.pins → self.new.tree.elapsed ≡ self.new.tree.number }
     {
-        self.tree.scan();
+        self.tree.scan(count);
     }
 
     /// What the type keeps: the areas stand in order up to the limit, no more than may be; each has the pages of its pair; and

@@ -11,8 +11,8 @@ ghost use Rattle.maple_gap.specs.Internal.Searches.{may_have_room, entries_under
 
 use crate::window::{Side, Window, choose};
 use maple_node::{NodeItem, Place, gap_in, item_in, lists_nothing};
-use mm_types::{Row, Steps};
-use node_slots::{NodeWriter, Tree};
+use mm_types::Row;
+use node_slots::{NodeWriter, Reads, Tree};
 
 /// An item of the tree, and how many levels of nodes lie below it: none below an entry.
 #[derive(Clone, Copy)]
@@ -28,23 +28,23 @@ pub(crate) struct Descent {
     pub(crate) spare: Option<Branch>,
 }
 
-/// The words of a row. Counts one step.
-fn words<'a, L>(writer: &'a NodeWriter, row: u64, steps: &mut Steps<L>) -> &'a [u64; 32]
+/// The words of a row. Counts one read.
+fn words<'a>(writer: &'a NodeWriter, row: u64, reads: &mut Reads) -> &'a [u64; 32]
     requires { row < row_count writer.now }
     ensures words { result.now ≡ words_at writer.now row }
-    ensures steps { steps.new ≡ steps.old + 1 }
+    ensures reads { reads.new ≡ reads.old + 1 }
 {
-    writer.nodes().written(writer, Row(row as u32), steps)
+    writer.nodes().written(writer, Row(row as u32), reads)
 }
 
-/// The whole tree as a branch, without the gap of its item. Tree 0, whose root lists nothing, is one gap. Counts one step.
-pub(crate) fn root_of<L>(writer: &NodeWriter, tree: &Tree, steps: &mut Steps<L>) -> Branch
+/// The whole tree as a branch, without the gap of its item. Tree 0, whose root lists nothing, is one gap. Counts one read.
+pub(crate) fn root_of(writer: &NodeWriter, tree: &Tree, reads: &mut Reads) -> Branch
     requires tree { IsWriters writer.now tree.now }
     ensures root { IsRootOf writer.now tree.now result }
-    ensures steps { steps.new ≡ steps.old + 1 }
+    ensures reads { reads.new ≡ reads.old + 1 }
 {
     let row = u64::from(tree.root.0);
-    let words = words(writer, row, steps);
+    let words = words(writer, row, reads);
     let end = tree.limit.0;
     if lists_nothing(words) {
         return Branch {
@@ -73,19 +73,19 @@ pub(crate) fn root_of<L>(writer: &NodeWriter, tree: &Tree, steps: &mut Steps<L>)
 }
 
 /// The whole tree as a branch whose item tells its largest gap. Only a search for room needs that gap, which takes all words of the
-/// root. Counts two steps at most.
-pub(crate) fn root_with_gap<L>(writer: &NodeWriter, tree: &Tree, steps: &mut Steps<L>) -> Branch
+/// root. Counts two reads at most.
+pub(crate) fn root_with_gap(writer: &NodeWriter, tree: &Tree, reads: &mut Reads) -> Branch
     requires tree { IsWriters writer.now tree.now }
     ensures root { IsRootOf writer.now tree.now result }
     ensures branch { IsBranch (words_at writer.now) result }
-    ensures steps { steps.new ≤ steps.old + 2 }
+    ensures reads { reads.new ≤ reads.old + 2 }
 {
-    let root = root_of(writer, tree, steps);
+    let root = root_of(writer, tree, reads);
     if root.level == 0 {
         return root;
     }
     let Place { start, item } = root.place;
-    let words = words(writer, item.word, steps);
+    let words = words(writer, item.word, reads);
     let gap = gap_in(root.level == 1, start, words);
     Branch {
         place: Place {
@@ -109,13 +109,13 @@ fn spare_from(second: Option<Place>, level: u32, spare: Option<Branch>) -> Optio
 /// Goes down to an entry with room, at each node to the lowest item that may have room, or to the highest. Where it comes to a
 /// node none of whose items may have room, another branch is left that may, if there is one. That branch does not cross the edge
 /// of the window where the search begins, and an item inside the window that may have room has it, so from there one more way
-/// down tells. Counts one step for each level at most.
-pub(crate) fn descend<L>(
+/// down tells. Counts one read for each level at most.
+pub(crate) fn descend(
     writer: &NodeWriter,
     window: Window,
     side: Side,
     from: Branch,
-    steps: &mut Steps<L>,
+    reads: &mut Reads,
 ) -> Descent
     requires branch { IsBranch (words_at writer.now) from }
     requires room { may_have_room window (is_leaf from.level) from.place.start from.place.item ≡ true }
@@ -123,14 +123,14 @@ pub(crate) fn descend<L>(
     ensures best { best_under side window (words_at writer.now) from ≡ option_or result.found (best_of side window (words_at writer.now) result.spare) }
     ensures far { IsFar side window from.place → best_under side window (words_at writer.now) from ≡ result.found }
     ensures spare { IfSome result.spare (λ spare. IsSpare side window (words_at writer.now) spare × (spare.level ≤ from.level)) }
-    ensures steps { steps.new ≤ steps.old + from.level }
+    ensures reads { reads.new ≤ reads.old + from.level }
 {
     let mut branch = from;
     let mut spare = None;
     while branch.level > 0 {
         let level = branch.level - 1;
         let Place { start, item } = branch.place;
-        let words = words(writer, item.word, steps);
+        let words = words(writer, item.word, reads);
         let choice = choose(window, side, level == 0, start, words);
         let Some(place) = choice.first else {
             return Descent { found: None, spare };
@@ -145,23 +145,19 @@ pub(crate) fn descend<L>(
 }
 
 /// The entry of a branch that has a page, and the page where it begins.
-pub(crate) fn entry_at<L>(
-    writer: &NodeWriter,
-    root: Branch,
-    page: u64,
-    steps: &mut Steps<L>,
-) -> Place
+pub(crate) fn entry_at(writer: &NodeWriter, root: Branch, page: u64, reads: &mut Reads) -> Place
     requires branch { IsAnyBranch (words_at writer.now) root }
     requires above { root.place.start ≤ page }
     requires within { page < root.place.item.end }
     ensures item { item_at page (entries_under (words_at writer.now) root) ≡ Some result.item }
     ensures start { result.start ≡ items_end root.place.start (ending_by page (entries_under (words_at writer.now) root)) }
+    ensures reads { reads.new ≤ reads.old + root.level }
 {
     let mut branch = root;
     while branch.level > 0 {
         let level = branch.level - 1;
         let Place { start, item } = branch.place;
-        let words = words(writer, item.word, steps);
+        let words = words(writer, item.word, reads);
         branch = Branch {
             place: item_in(level == 0, words, start, page),
             level,
@@ -171,12 +167,7 @@ pub(crate) fn entry_at<L>(
 }
 
 /// The leaf of a branch that has a page, or the branch where it is an entry. Other pages of the leaf have their entries there too.
-pub(crate) fn leaf_at<L>(
-    writer: &NodeWriter,
-    root: Branch,
-    page: u64,
-    steps: &mut Steps<L>,
-) -> Branch
+pub(crate) fn leaf_at(writer: &NodeWriter, root: Branch, page: u64, reads: &mut Reads) -> Branch
     requires branch { IsAnyBranch (words_at writer.now) root }
     requires above { root.place.start ≤ page }
     requires within { page < root.place.item.end }
@@ -184,12 +175,14 @@ pub(crate) fn leaf_at<L>(
     ensures above { result.place.start ≤ page }
     ensures within { page < result.place.item.end }
     ensures same { IsPartOf (words_at writer.now) root result }
+    ensures low { result.level ≤ root.level }
+    ensures reads { reads.new + result.level ≤ reads.old + root.level }
 {
     let mut branch = root;
     while branch.level > 1 {
         let level = branch.level - 1;
         let Place { start, item } = branch.place;
-        let words = words(writer, item.word, steps);
+        let words = words(writer, item.word, reads);
         branch = Branch {
             place: item_in(false, words, start, page),
             level,
@@ -200,12 +193,12 @@ pub(crate) fn leaf_at<L>(
 
 /// The entry of a branch that has a page, where the pages before it were found in a part of the branch: most such pages lie in
 /// that part too, so there it is sought first.
-pub(crate) fn entry_near<L>(
+pub(crate) fn entry_near(
     writer: &NodeWriter,
     root: Branch,
     part: Branch,
     page: u64,
-    steps: &mut Steps<L>,
+    reads: &mut Reads,
 ) -> Place
     requires branch { IsAnyBranch (words_at writer.now) root }
     requires part { IsAnyBranch (words_at writer.now) part }
@@ -214,11 +207,12 @@ pub(crate) fn entry_near<L>(
     requires within { page < root.place.item.end }
     requires ending_after { part.place.start ≤ page }
     ensures item { item_at page (entries_under (words_at writer.now) root) ≡ Some result.item }
+    ensures reads { reads.new ≤ reads.old + (root.level + part.level) }
 {
     let near = if page < part.place.item.end {
         part
     } else {
         root
     };
-    entry_at(writer, near, page, steps)
+    entry_at(writer, near, page, reads)
 }

@@ -20,7 +20,8 @@
 // An entry that may have room has it, so nothing has to be tried in a leaf. That holds because two gaps never follow each other (maple_write): a
 // free range is one entry of one leaf.
 //
-// The cost: at most 3 height + 3 rows are read, in two walks and for the gap of the root. The clause `steps` of `highest` and `lowest` says so.
+// The cost: at most 3 height + 3 rows are read, in two walks and for the gap of the root. The clause `reads` of each of the four says so: it counts
+// on the count that it's handed (`Reads` of node_slots), and nothing here can begin another, since the writer is only lent to be looked at.
 //
 // `next_slot` and `before_slot` find the VMA at or above a page, and the one below it. A gap is followed by a VMA or by the limit, so the entry
 // of the page and the one beside it decide; the second is sought in the same leaf first, where it mostly is.

@@ -9,19 +9,19 @@ ghost use Rattle.maple_gap.specs.Internal.Searches.{IsOutermost};
 
 use crate::branch::{descend, root_with_gap};
 use crate::window::{Side, Window};
-use mm_types::{Page, Steps};
-use node_slots::{NodeTable, NodeWriter, Tree};
+use mm_types::Page;
+use node_slots::{NodeTable, NodeWriter, Reads, Tree};
 
 /// The greatest start of `len` free pages of the writer's tree that all lie from page `lo` up to page `hi`. None exactly where
-/// there is none. Counts a step for each node that it reads.
-pub fn highest<L>(
+/// there is none. Counts a read for each node.
+pub fn highest(
     nodes: &NodeTable,
     writer: &NodeWriter,
     tree: &Tree,
     len: u64,
     lo: u64,
     hi: u64,
-    steps: &mut Steps<L>,
+    reads: &mut Reads,
 ) -> Option<Page>
     requires table { WritesNodeTable writer.now nodes.now }
     requires tree { IsWriters writer.now tree.now }
@@ -29,23 +29,23 @@ pub fn highest<L>(
     requires limit { hi ≤ tree.now.limit.0 }
     ensures start { MatchOption result (NonePasses (fits (pairs_now writer.now tree.now) len lo hi))
         (λ start. IsGreatest (fits (pairs_now writer.now tree.now) len lo hi) start.0) }
-    ensures steps { steps.new ≤ steps.old + (3 * tree.now.height + 3) }
+    ensures reads { reads.new ≤ reads.old + (3 * tree.now.height + 3) }
 {
     let window = Window { len, lo, hi };
-    let start = search(writer, tree, window, Side::High, steps)?;
+    let start = search(writer, tree, window, Side::High, reads)?;
     Some(Page(start))
 }
 
 /// The least start of `len` free pages of the writer's tree that all lie from page `lo` up to page `hi`. None exactly where
-/// there is none. Counts a step for each node that it reads.
-pub fn lowest<L>(
+/// there is none. Counts a read for each node.
+pub fn lowest(
     nodes: &NodeTable,
     writer: &NodeWriter,
     tree: &Tree,
     len: u64,
     lo: u64,
     hi: u64,
-    steps: &mut Steps<L>,
+    reads: &mut Reads,
 ) -> Option<Page>
     requires table { WritesNodeTable writer.now nodes.now }
     requires tree { IsWriters writer.now tree.now }
@@ -53,37 +53,37 @@ pub fn lowest<L>(
     requires limit { hi ≤ tree.now.limit.0 }
     ensures start { MatchOption result (NonePasses (fits (pairs_now writer.now tree.now) len lo hi))
         (λ start. IsLeast (fits (pairs_now writer.now tree.now) len lo hi) start.0) }
-    ensures steps { steps.new ≤ steps.old + (3 * tree.now.height + 3) }
+    ensures reads { reads.new ≤ reads.old + (3 * tree.now.height + 3) }
 {
     let window = Window { len, lo, hi };
-    let start = search(writer, tree, window, Side::Low, steps)?;
+    let start = search(writer, tree, window, Side::Low, reads)?;
     Some(Page(start))
 }
 
 /// The greatest or the least start in a window.
-fn search<L>(
+fn search(
     writer: &NodeWriter,
     tree: &Tree,
     window: Window,
     side: Side,
-    steps: &mut Steps<L>,
+    reads: &mut Reads,
 ) -> Option<u64>
     requires tree { IsWriters writer.now tree.now }
     requires some { 1 ≤ window.len }
     requires limit { window.hi ≤ tree.now.limit.0 }
     ensures start { IsOutermost side (fits (pairs_now writer.now tree.now) window.len window.lo window.hi) result }
-    ensures steps { steps.new ≤ steps.old + (2 * tree.now.height + 2) }
+    ensures reads { reads.new ≤ reads.old + (2 * tree.now.height + 2) }
 {
-    let root = root_with_gap(writer, tree, steps);
+    let root = root_with_gap(writer, tree, reads);
     if !window.may_have(root.level == 0, root.place) {
         return None;
     }
-    let down = descend(writer, window, side, root, steps);
+    let down = descend(writer, window, side, root, reads);
     if down.found.is_some() {
         return down.found;
     }
     let Some(spare) = down.spare else {
         return None;
     };
-    descend(writer, window, side, spare, steps).found
+    descend(writer, window, side, spare, reads).found
 }

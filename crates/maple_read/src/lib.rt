@@ -10,7 +10,8 @@
 // answer is the slot that this tree pairs with the page, however old the tree is by now. What the slot shows now, the caller has to ask
 // (fault_path).
 //
-// The cost: at most 11 loads of an inner node and 17 of a leaf, each of one word, sequentially consistent. A row has four cache lines.
+// The cost: at most 11 loads of an inner node and 17 of a leaf, each of one word, sequentially consistent. A row has 256 bytes: four cache lines, or
+// parts of five.
 //
 // To be changed freely: in which order the ends of a node are looked at. Not to be changed: that nothing but words of rows is read between root
 // and slot, and that it's handed no runtime.

@@ -6,7 +6,7 @@ ghost use Rattle.maple_write.specs.Internal.Stores.{IsUpper, HasPage, IsDescent}
 
 use crate::rows::{Rooted, words};
 use maple_node::{NodeItem, Place, item_in};
-use node_slots::NodeWriter;
+use node_slots::{MayCount, NodeWriter};
 
 /// How many levels a descent keeps, from the entries up. A published tree has no more: nine are enough for 131,061 entries, which 65,530 areas
 /// and the gaps between them are (`sizes_of_trees`).
@@ -38,7 +38,14 @@ pub(crate) struct Begin {
 }
 
 /// The item that has a page in the level below one, of which the item is given that has it.
-fn down(writer: &NodeWriter, tree: Rooted, low: u32, begin: Begin, page: u64) -> Begin
+fn down(
+    writer: &NodeWriter,
+    may: MayCount,
+    tree: Rooted,
+    low: u32,
+    begin: Begin,
+    page: u64,
+) -> Begin
     requires tower { IsUpper (words_at writer.now) tree low }
     requires order { low < begin.level }
     requires high { begin.level ≤ tree.height }
@@ -47,7 +54,7 @@ fn down(writer: &NodeWriter, tree: Rooted, low: u32, begin: Begin, page: u64) ->
     ensures begins { HasPage (words_at writer.now) tree result.level page result.place }
 {
     let level = begin.level - 1;
-    let words = words(writer, begin.place.item.word);
+    let words = words(writer, may, begin.place.item.word);
     Begin {
         level,
         place: item_in(level == 0, words, begin.place.start, page),
@@ -70,7 +77,7 @@ fn above(tree: Rooted) -> Begin
 
 impl Descent {
     /// Keeps the way down the tree to the page. The descent is filled where it stands, since it is long.
-    pub(crate) fn descend(&mut self, writer: &NodeWriter)
+    pub(crate) fn descend(&mut self, writer: &NodeWriter, may: MayCount)
         requires tower { IsUpper (words_at writer.now) self.old.tree 0 }
         requires within { self.old.page < self.old.tree.top.end }
         ensures tree { self.new.tree ≡ self.old.tree }
@@ -80,7 +87,7 @@ impl Descent {
         let page = self.page;
         let mut begin = above(tree);
         while begin.level > 0 {
-            begin = down(writer, tree, 0, begin, page);
+            begin = down(writer, may, tree, 0, begin, page);
             self.keep(begin);
         }
     }
@@ -121,7 +128,13 @@ impl Descent {
 
 /// The item of a level that has a page, in the tree of a descent, and the page where it begins. The search begins at the lowest
 /// item of the descent that has the page.
-pub(crate) fn find(writer: &NodeWriter, descent: &Descent, low: u32, page: u64) -> Place
+pub(crate) fn find(
+    writer: &NodeWriter,
+    may: MayCount,
+    descent: &Descent,
+    low: u32,
+    page: u64,
+) -> Place
     requires tower { IsUpper (words_at writer.now) descent.now.tree low }
     requires descent { IsDescent (words_at writer.now) low descent.now }
     requires order { low ≤ descent.now.tree.height }
@@ -130,7 +143,7 @@ pub(crate) fn find(writer: &NodeWriter, descent: &Descent, low: u32, page: u64) 
 {
     let mut begin = descent.nearest(low, page);
     while begin.level > low {
-        begin = down(writer, descent.tree, low, begin, page);
+        begin = down(writer, may, descent.tree, low, begin, page);
     }
     begin.place
 }

@@ -18,7 +18,7 @@ use maple_node::{
     ItemList, NodeWords, Part, Place, gap_in, least, push_all, push_part, spliced_words, swap_child,
 };
 use mm_types::{Row, Span};
-use node_slots::NodeWriter;
+use node_slots::{MayCount, NodeWriter};
 
 /// The page where the items of whole nodes of a level begin, the page where they end, and the row of the first of these nodes.
 #[derive(Clone, Copy)]
@@ -29,7 +29,13 @@ struct Edges {
 }
 
 /// Leaves the nodes of a level of an old tree that have pages of a span, which ends where one of them does.
-pub(crate) fn leave_block(writer: &mut NodeWriter, descent: &Descent, level: u32, span: Span)
+pub(crate) fn leave_block(
+    writer: &mut NodeWriter,
+    may: MayCount,
+    descent: &Descent,
+    level: u32,
+    span: Span,
+)
     requires order { level ≤ descent.now.tree.height }
     requires limit { span.hi ≤ descent.now.tree.top.end }
     requires tower { IsUpper (words_at writer.old) descent.now.tree level }
@@ -40,7 +46,7 @@ pub(crate) fn leave_block(writer: &mut NodeWriter, descent: &Descent, level: u32
 {
     let mut page = span.lo;
     while page < span.hi {
-        let place = find(writer, descent, level, page);
+        let place = find(writer, may, descent, level, page);
         writer.leave(Row(place.item.word as u32));
         page = place.item.end;
     }
@@ -60,7 +66,14 @@ fn leave_one(writer: &mut NodeWriter, state: &WriteState, left: Place, row: Row)
 
 /// Lists the items of two nodes with the new ones between: those of the left node up to the first page of the store, and those of
 /// the right one above the page where the new ones end.
-fn joined(writer: &NodeWriter, state: &WriteState, left: u64, right: u64, items: &mut ItemList)
+fn joined(
+    writer: &NodeWriter,
+    may: MayCount,
+    state: &WriteState,
+    left: u64,
+    right: u64,
+    items: &mut ItemList,
+)
     requires left { left < row_count writer.now }
     requires right { right < row_count writer.now }
     requires few { length state.now.replacement.items.items ≤ 3 }
@@ -69,18 +82,23 @@ fn joined(writer: &NodeWriter, state: &WriteState, left: u64, right: u64, items:
         ++ (state.now.replacement.items.items ++ ending_after state.now.replacement.end (items_at (words_at writer.now) (is_leaf state.now.level) right)) }
 {
     let leaf = state.level == 0;
-    push_part(items, Part::EndingBy(state.lo), leaf, words(writer, left));
+    push_part(
+        items,
+        Part::EndingBy(state.lo),
+        leaf,
+        words(writer, may, left),
+    );
     push_all(items, state.replacement.items.as_slice());
     push_part(
         items,
         Part::EndingAfter(state.replacement.end),
         leaf,
-        words(writer, right),
+        words(writer, may, right),
     );
 }
 
 /// The node where the new items end, of which the one where they begin is given. Most end in it.
-fn last(writer: &NodeWriter, state: &WriteState, left: Place) -> Place
+fn last(writer: &NodeWriter, may: MayCount, state: &WriteState, left: Place) -> Place
     requires writing { IsWriting writer.now state.now }
     requires below { state.now.level < state.now.descent.now.tree.height }
     requires left { HasPage (words_at writer.now) state.now.descent.now.tree (state.now.level + 1) state.now.lo left }
@@ -91,6 +109,7 @@ fn last(writer: &NodeWriter, state: &WriteState, left: Place) -> Place
     } else {
         find(
             writer,
+            may,
             state.descent,
             state.level + 1,
             state.replacement.end - 1,
@@ -100,15 +119,15 @@ fn last(writer: &NodeWriter, state: &WriteState, left: Place) -> Place
 
 /// Lists the items of the level from the beginning of the node that has the first page to the end of the node where the new ones
 /// end, and answers these pages.
-fn cut(writer: &NodeWriter, state: &WriteState, items: &mut ItemList) -> Edges
+fn cut(writer: &NodeWriter, may: MayCount, state: &WriteState, items: &mut ItemList) -> Edges
     requires writing { IsWriting writer.now state.now }
     requires below { state.now.level < state.now.descent.now.tree.height }
     requires none { items.old.items ≡ [] }
     ensures { Cut (table_at writer.now) (level_in state.now) result.begin result.end items.new.items }
 {
-    let left = find(writer, state.descent, state.level + 1, state.lo);
-    let right = last(writer, state, left);
-    joined(writer, state, left.item.word, right.item.word, items);
+    let left = find(writer, may, state.descent, state.level + 1, state.lo);
+    let right = last(writer, may, state, left);
+    joined(writer, may, state, left.item.word, right.item.word, items);
     Edges {
         begin: left.start,
         end: right.item.end,
@@ -117,7 +136,7 @@ fn cut(writer: &NodeWriter, state: &WriteState, items: &mut ItemList) -> Edges
 }
 
 /// The same, with the whole of the next node where they are too few for a node of their own.
-fn rebalanced(writer: &NodeWriter, state: &WriteState, items: &mut ItemList) -> Edges
+fn rebalanced(writer: &NodeWriter, may: MayCount, state: &WriteState, items: &mut ItemList) -> Edges
     requires writing { IsWriting writer.now state.now }
     requires below { state.now.level < state.now.descent.now.tree.height }
     requires none { items.old.items ≡ [] }
@@ -125,10 +144,10 @@ fn rebalanced(writer: &NodeWriter, state: &WriteState, items: &mut ItemList) -> 
     ensures least { result.end < state.now.descent.now.tree.top.end → least_items (is_leaf state.now.level) ≤ length items.new.items }
 {
     let leaf = state.level == 0;
-    let mut edges = cut(writer, state, items);
+    let mut edges = cut(writer, may, state, items);
     if items.len() < least(leaf) && edges.end < state.descent.tree.top.end {
-        let next = find(writer, state.descent, state.level + 1, edges.end);
-        let next_words = words(writer, next.item.word);
+        let next = find(writer, may, state.descent, state.level + 1, edges.end);
+        let next_words = words(writer, may, next.item.word);
         push_part(items, Part::Whole, leaf, next_words);
         edges.end = next.item.end;
     }
@@ -136,19 +155,19 @@ fn rebalanced(writer: &NodeWriter, state: &WriteState, items: &mut ItemList) -> 
 }
 
 /// Leaves the nodes of a level where items of it are replaced, and packs their items anew.
-fn rebuild_by_list(writer: &mut NodeWriter, state: &mut WriteState)
+fn rebuild_by_list(writer: &mut NodeWriter, may: MayCount, state: &mut WriteState)
     requires writing { IsWriting writer.old state.old }
     requires below { state.old.level < state.old.descent.now.tree.height }
     ensures { RebuildsLevel writer.old writer.new state.old state.new }
 {
     let leaf = state.level == 0;
     let mut list = ItemList::new();
-    let edges = rebalanced(writer, state, &mut list);
+    let edges = rebalanced(writer, may, state, &mut list);
     let span = Span {
         lo: state.lo,
         hi: edges.end,
     };
-    leave_block(writer, state.descent, state.level + 1, span);
+    leave_block(writer, may, state.descent, state.level + 1, span);
     let items = pack(writer, edges.first, leaf, edges.begin, list.as_slice());
     state.level += 1;
     state.replacement = Replacement {
@@ -160,7 +179,13 @@ fn rebuild_by_list(writer: &mut NodeWriter, state: &mut WriteState)
 
 /// Makes the words of a node anew, with the new items in the place of those that it lists there, and answers whether it did: not
 /// where they end in another node, or where it must be split or joined with another one.
-fn renewed(writer: &NodeWriter, state: &WriteState, left: Place, made: &mut NodeWords) -> bool
+fn renewed(
+    writer: &NodeWriter,
+    may: MayCount,
+    state: &WriteState,
+    left: Place,
+    made: &mut NodeWords,
+) -> bool
     requires writing { IsWriting writer.now state.now }
     requires below { state.now.level < state.now.descent.now.tree.height }
     requires left { HasPage (words_at writer.now) state.now.descent.now.tree (state.now.level + 1) state.now.lo left }
@@ -179,7 +204,7 @@ fn renewed(writer: &NodeWriter, state: &WriteState, left: Place, made: &mut Node
     };
     spliced_words(
         leaf,
-        words(writer, left.item.word),
+        words(writer, may, left.item.word),
         left.item.end,
         fewest,
         state.lo,
@@ -246,25 +271,25 @@ fn rebuild_by_words(
 
 /// Leaves the nodes of a level where items of it are replaced, and makes them anew. A row that was taken since the last publish is
 /// free at once, and is taken again. The store is then a level higher, where the items that stand for the new nodes are new.
-pub(crate) fn rebuild_level(writer: &mut NodeWriter, state: &mut WriteState)
+pub(crate) fn rebuild_level(writer: &mut NodeWriter, may: MayCount, state: &mut WriteState)
     requires writing { IsWriting writer.old state.old }
     requires below { state.old.level < state.old.descent.now.tree.height }
     ensures { RebuildsLevel writer.old writer.new state.old state.new }
 {
-    let left = find(writer, state.descent, state.level + 1, state.lo);
+    let left = find(writer, may, state.descent, state.level + 1, state.lo);
     if state.level > 0 && state.replacement.items.len() == 1 {
-        let mut words = *words(writer, left.item.word);
+        let mut words = *words(writer, may, left.item.word);
         if let Some(gap) = swapped(writer, state, left, &mut words) {
             rebuild_by_words(writer, state, left, &words, gap);
             return;
         }
     }
     let mut made = NodeWords::new();
-    if renewed(writer, state, left, &mut made) {
+    if renewed(writer, may, state, left, &mut made) {
         let words = made.words();
         let gap = gap_in(state.level == 0, left.start, words);
         rebuild_by_words(writer, state, left, words, gap);
     } else {
-        rebuild_by_list(writer, state);
+        rebuild_by_list(writer, may, state);
     }
 }

@@ -10,8 +10,8 @@ ghost use Rattle.maple_write.specs.Tables.{FillsRows};
 
 use arrayvec::ArrayVec;
 use maple_node::{NodeItem, gap_in, node_words, share};
-use mm_types::{Row, Steps};
-use node_slots::NodeWriter;
+use mm_types::Row;
+use node_slots::{MayCount, NodeWriter};
 
 /// A tree as its root tells it: the root's item, and the tree's height. Height 1 is a single leaf.
 #[derive(Clone, Copy, Debug, PartialEq, Eq)]
@@ -23,16 +23,13 @@ pub(crate) struct Rooted {
 /// A few items, in an array of their own: short, since it is passed by value from level to level.
 pub(crate) type FewItems = ArrayVec<NodeItem, 3>;
 
-/// The rows that are read, which nobody counts here.
-struct Reads;
-
-/// The words of a row.
-pub(crate) fn words(writer: &NodeWriter, row: u64) -> &[u64; 32]
+/// The words of a row. Nobody counts the rows that a store reads.
+pub(crate) fn words(writer: &NodeWriter, may: MayCount, row: u64) -> &[u64; 32]
     requires row { row < row_count writer.now }
     ensures { result.now ≡ words_at writer.now row }
 {
-    let mut steps = Steps::<Reads>::new();
-    writer.nodes().written(writer, Row(row as u32), &mut steps)
+    let mut reads = may.begin();
+    writer.nodes().written(writer, Row(row as u32), &mut reads)
 }
 
 /// Makes a node, which begins and ends at these pages and has this largest gap, of its words in a free row: one that held nearly the

@@ -19,7 +19,7 @@ use maple_node::{
     ItemList, NodeItem, Place, gap_in, lists_nothing, push_all, push_ending_after, slot_word,
 };
 use mm_types::{Row, Slot, Span};
-use node_slots::{NodeTable, NodeWriter, Tree};
+use node_slots::{MayCount, NodeTable, NodeWriter, Tree};
 
 /// Gives the pages of a span a slot, or makes them a gap, in the writer's tree. The nodes on the paths to them are made anew in
 /// free rows, at most three for each level and one for a root, and the rows of the old nodes are left. An empty span changes
@@ -27,6 +27,7 @@ use node_slots::{NodeTable, NodeWriter, Tree};
 pub fn store(
     nodes: &NodeTable,
     writer: &mut NodeWriter,
+    may: MayCount,
     tree: &mut Tree,
     span: Span,
     slot: Option<Slot>,
@@ -50,8 +51,8 @@ pub fn store(
     if span.lo >= span.hi {
         return;
     }
-    let old = rooted(writer, tree);
-    let new = stored(writer, old, tree.limit.0, span, slot_word(slot));
+    let old = rooted(writer, may, tree);
+    let new = stored(writer, may, old, tree.limit.0, span, slot_word(slot));
     tree.root = Row(new.top.word as u32);
     tree.height = new.height;
 }
@@ -71,13 +72,13 @@ pub fn publish_tree(nodes: &NodeTable, writer: &mut NodeWriter, tree: &Tree)
 }
 
 /// The tree of the writer's view, with what the row of its root tells of it.
-fn rooted(writer: &NodeWriter, tree: &Tree) -> Rooted
+fn rooted(writer: &NodeWriter, may: MayCount, tree: &Tree) -> Rooted
     requires tree { IsWriters writer.now tree.now }
     ensures { tree_under result ≡ built writer.now tree.now }
 {
     let leaf = tree.height == 1;
     let root = u64::from(tree.root.0);
-    let words = words(writer, root);
+    let words = words(writer, may, root);
     let end = if lists_nothing(words) {
         0
     } else {
@@ -94,7 +95,7 @@ fn rooted(writer: &NodeWriter, tree: &Tree) -> Rooted
 }
 
 /// Where the gap begins that has the page before a page, or else the page.
-fn gap_begin(writer: &NodeWriter, descent: &Descent, page: u64) -> u64
+fn gap_begin(writer: &NodeWriter, may: MayCount, descent: &Descent, page: u64) -> u64
     requires shaped { IsShaped (table_at writer.now) (tree_under descent.now.tree) }
     requires descent { IsDescent (words_at writer.now) 0 descent.now }
     requires within { page ≤ descent.now.tree.top.end }
@@ -103,7 +104,7 @@ fn gap_begin(writer: &NodeWriter, descent: &Descent, page: u64) -> u64
     if page == 0 {
         return 0;
     }
-    let place = find(writer, descent, 0, page - 1);
+    let place = find(writer, may, descent, 0, page - 1);
     if place.item.word == 0 {
         place.start
     } else {
@@ -112,7 +113,7 @@ fn gap_begin(writer: &NodeWriter, descent: &Descent, page: u64) -> u64
 }
 
 /// Where the gap ends that has a page, or else the page.
-fn gap_end(writer: &NodeWriter, descent: &Descent, page: u64) -> u64
+fn gap_end(writer: &NodeWriter, may: MayCount, descent: &Descent, page: u64) -> u64
     requires shaped { IsShaped (table_at writer.now) (tree_under descent.now.tree) }
     requires descent { IsDescent (words_at writer.now) 0 descent.now }
     requires within { page ≤ descent.now.tree.top.end }
@@ -121,7 +122,7 @@ fn gap_end(writer: &NodeWriter, descent: &Descent, page: u64) -> u64
     if page == descent.tree.top.end {
         return page;
     }
-    let place = find(writer, descent, 0, page);
+    let place = find(writer, may, descent, 0, page);
     if place.item.word == 0 {
         place.item.end
     } else {
@@ -130,7 +131,7 @@ fn gap_end(writer: &NodeWriter, descent: &Descent, page: u64) -> u64
 }
 
 /// A store into a tree with entries. A gap takes in the gaps beside it.
-fn overwrite(writer: &mut NodeWriter, old: Rooted, span: Span, word: u64) -> Rooted
+fn overwrite(writer: &mut NodeWriter, may: MayCount, old: Rooted, span: Span, word: u64) -> Rooted
     requires whole { IsWholeTree (table_at writer.old) (node_sight writer.old).size.slots (tree_under old) }
     requires free { 4 * old.height + 4 ≤ length (free_of writer.old) }
     requires some { span.lo < span.hi }
@@ -150,13 +151,13 @@ fn overwrite(writer: &mut NodeWriter, old: Rooted, span: Span, word: u64) -> Roo
         page: span.lo,
         places: [NO_PLACE; LEVELS],
     };
-    descent.descend(writer);
+    descent.descend(writer, may);
     if word != 0 {
-        return replace(writer, &descent, span, word);
+        return replace(writer, may, &descent, span, word);
     }
-    let lo = gap_begin(writer, &descent, span.lo);
-    let hi = gap_end(writer, &descent, span.hi);
-    replace(writer, &descent, Span { lo, hi }, 0)
+    let lo = gap_begin(writer, may, &descent, span.lo);
+    let hi = gap_end(writer, may, &descent, span.hi);
+    replace(writer, may, &descent, Span { lo, hi }, 0)
 }
 
 /// The entries of a tree whose pages were one gap up to `limit`, with one entry in a span.
@@ -225,7 +226,14 @@ fn store_first(writer: &mut NodeWriter, limit: u64, span: Span, word: u64) -> Ro
 }
 
 /// A store into the tree that the writer found: one with entries, or tree 0.
-fn stored(writer: &mut NodeWriter, old: Rooted, limit: u64, span: Span, word: u64) -> Rooted
+fn stored(
+    writer: &mut NodeWriter,
+    may: MayCount,
+    old: Rooted,
+    limit: u64,
+    span: Span,
+    word: u64,
+) -> Rooted
     requires finds { FindsTree writer.old old limit }
     requires free { 4 * old.height + 4 ≤ length (free_of writer.old) }
     requires some { span.lo < span.hi }
@@ -243,5 +251,5 @@ fn stored(writer: &mut NodeWriter, old: Rooted, limit: u64, span: Span, word: u6
     if old.top.end == 0 {
         return store_first(writer, limit, span, word);
     }
-    overwrite(writer, old, span, word)
+    overwrite(writer, may, old, span, word)
 }

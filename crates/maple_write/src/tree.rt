@@ -17,7 +17,7 @@ use crate::rows::{FewItems, Rooted, put};
 use crate::state::{Replacement, WriteState};
 use maple_node::{NodeItem, Place};
 use mm_types::{Row, Span};
-use node_slots::NodeWriter;
+use node_slots::{MayCount, NodeWriter};
 
 /// The new entries of a store from the beginning of the entry at its first page: the part of that entry before the page, if
 /// there is one, and the entry of the store.
@@ -55,7 +55,7 @@ fn is_whole(new: &Replacement, limit: u64) -> bool
 }
 
 /// Leaves the nodes of the old tree above the level of a store.
-fn leave_upper(writer: &mut NodeWriter, state: &WriteState)
+fn leave_upper(writer: &mut NodeWriter, may: MayCount, state: &WriteState)
     requires { IsWriting writer.old state.now }
     ensures { LeavesRows writer.old writer.new (upper_rows (words_at writer.old) state.now.descent.now.tree state.now.level) }
 {
@@ -67,7 +67,7 @@ fn leave_upper(writer: &mut NodeWriter, state: &WriteState)
     let mut next = state.level;
     while next < tree.height {
         next += 1;
-        leave_block(writer, state.descent, next, all);
+        leave_block(writer, may, state.descent, next, all);
     }
 }
 
@@ -102,7 +102,13 @@ fn new_root(writer: &mut NodeWriter, level: u32, items: &FewItems) -> Rooted
 }
 
 /// Builds the tree of a descent anew with one entry in the place of what it has in a span.
-pub(crate) fn replace(writer: &mut NodeWriter, descent: &Descent, span: Span, word: u64) -> Rooted
+pub(crate) fn replace(
+    writer: &mut NodeWriter,
+    may: MayCount,
+    descent: &Descent,
+    span: Span,
+    word: u64,
+) -> Rooted
     requires shaped { IsShaped (table_at writer.old) (tree_under descent.now.tree) }
     requires descent { IsDescent (words_at writer.old) 0 descent.now }
     requires free { 4 * descent.now.tree.height + 4 ≤ length (free_of writer.old) }
@@ -118,7 +124,7 @@ pub(crate) fn replace(writer: &mut NodeWriter, descent: &Descent, span: Span, wo
     ensures free { length (free_of writer.old) ≤ length (free_of writer.new) + 3 * descent.now.tree.height + 1 }
 {
     let tree = descent.tree;
-    let place = find(writer, descent, 0, span.lo);
+    let place = find(writer, may, descent, 0, span.lo);
     let mut state = WriteState {
         descent,
         level: 0,
@@ -127,9 +133,9 @@ pub(crate) fn replace(writer: &mut NodeWriter, descent: &Descent, span: Span, wo
     };
     let mut done = false;
     while state.level < tree.height && !done {
-        rebuild_level(writer, &mut state);
+        rebuild_level(writer, may, &mut state);
         done = is_whole(&state.replacement, tree.top.end);
     }
-    leave_upper(writer, &state);
+    leave_upper(writer, may, &state);
     new_root(writer, state.level, &state.replacement.items)
 }

@@ -1,3 +1,4 @@
+pub mod Crossing
 pub mod States
 pub mod Settling
 pub mod Opening

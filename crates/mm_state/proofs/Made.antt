@@ -138,4 +138,5 @@ module _ (old new : Inside) (entry : Entry) (answer : Planned) (plan : PlanView)
     stays = stays_made old entry answer plan new.journal.items (slots new.store.writer) made.asked made.pushed made.done.stays;
     waits = made.done.waits;
     gone = made.done.gone;
+    publishes = made.done.publishes;
   }

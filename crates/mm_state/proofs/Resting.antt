@@ -1,5 +1,5 @@
 -- For `AreaStore::enter`: a store whose writer was lent a turn, or gave it back, is the same but for that.
-use Rattle.std.proofs.Common.{◌≡◌, ◌++◌, ◌∷◌, [], ◌%◌, List, length, subst, sym, ap, ◌∙◌}
+use Rattle.std.proofs.Common.{◌≡◌, ◌++◌, ◌∷◌, [], ◌%◌, ◌+◌, List, length, subst, sym, ap, ◌∙◌}
 use Rattle.mm_types.specs.declared.call.Entry.{Entry}
 use Rattle.area_rules.specs.Steps.{step, after}
 use Rattle.lock_core.specs.declared.stage.SlotState.{SlotState}
@@ -70,6 +70,11 @@ carried_like store made lent met changes entry first second done = record {
   stays = between (KeepsSlots (areas_of store.areas) (applied changes (areas_of store.areas))) done.stays;
   waits = between (KeepsLeft made.areas.tree.elapsed store.slots.left made.slots.left) done.waits;
   gone = between (HaveLeft made.areas.tree.number made.slots.left) done.gone;
+  publishes = (
+    done.publishes.0,
+    done.publishes.1 ∙ ap (λ (d : LockWriterState). d.seq + 1) first.writer_state,
+    ap (λ (d : LockWriterState). d.seq) second.writer_state ∙ done.publishes.2 ∙ ap (λ (d : LockWriterState). d.seq + 2) first.writer_state,
+  );
 }
   where
     between : (P : List SlotState → List SlotState → Type 0) → P (slots lent) (slots made.writer) → P (slots store.writer) (slots met)

@@ -1,8 +1,8 @@
 -- For `scan_for` and `wait_for_slots`: what scans change, and what is free once no reader is inside.
-use Rattle.std.proofs.Common.{ℕ, ◌≡◌, ◌≤◌, ◌<◌, ◌+◌, ◌*◌, ◌++◌, ◌∙◌, ◌⊎◌, inl, inr, Bool, true, false, nat_le, refl, List, [], ◌∷◌, length, get_or, All, sym, ap, arith, length-append}
+use Rattle.std.proofs.Common.{ℕ, ◌≡◌, ◌≤◌, ◌<◌, ◌+◌, ◌*◌, ◌++◌, ◌∙◌, ◌⊎◌, inl, inr, Bool, true, false, nat_le, refl, List, [], ◌∷◌, length, get_or, All, sym, ap, arith, length-append, append_assoc}
 use Rattle.std.proofs.lemmas.Bool.Decides.{nat_tests}
 use Rattle.std.proofs.lemmas.List.{length-map}
-use Rattle.std.proofs.lemmas.List.Elements.{recursion_from_All}
+use Rattle.std.proofs.lemmas.List.Elements.{recursion_from_All, All-nil, All-cons, All-append}
 use Rattle.split_merge.proofs.Lists.{filter_all}
 use Rattle.node_slots.specs.Seats.{AreOut, HasOpen}
 use Rattle.area_tree.proofs.Scanning.{out_or_open}
@@ -12,14 +12,14 @@ use Rattle.area_tree.specs.AreaTrees.{AreaTreeView}
 use Rattle.mm_state.specs.Internal.AreaStores.{CanFree, IsAreaTreeScanned}
 
 -- a scan is one of scans
-pub scanned : (old new : AreaTreeView) (scans : ℕ)
-    → new ≡ record old { tree = record old.tree { elapsed = new.tree.elapsed; scans = scans; pins = new.tree.pins; free = new.tree.free } } → IsAreaTreeScanned old new
-scanned old new scans same = same
-    ∙ ap (λ n. record old { tree = record old.tree { elapsed = new.tree.elapsed; scans = n; pins = new.tree.pins; free = new.tree.free } }) (sym (ap (λ (t : AreaTreeView). t.tree.scans) same))
+pub scanned : (old new : AreaTreeView) (scans : ℕ) (found : List ℕ)
+    → new ≡ record old { tree = record old.tree { elapsed = new.tree.elapsed; scans = scans; found = found; pins = new.tree.pins; free = new.tree.free } } → IsAreaTreeScanned old new
+scanned old new scans found same = same
+    ∙ ap (λ (t : AreaTreeView). record old { tree = record old.tree { elapsed = new.tree.elapsed; scans = t.tree.scans; found = t.tree.found; pins = new.tree.pins; free = new.tree.free } }) (sym same)
 
 pub scanned_more : (first second third : AreaTreeView) → IsAreaTreeScanned first second → IsAreaTreeScanned second third → IsAreaTreeScanned first third
 scanned_more first second third one two = two
-    ∙ ap (λ (t : AreaTreeView). record t { tree = record t.tree { elapsed = third.tree.elapsed; scans = third.tree.scans; pins = third.tree.pins; free = third.tree.free } }) one
+    ∙ ap (λ (t : AreaTreeView). record t { tree = record t.tree { elapsed = third.tree.elapsed; scans = third.tree.scans; found = third.tree.found; pins = third.tree.pins; free = third.tree.free } }) one
 
 -- a tree that was prepared, and then scanned
 pub readied : (old prepared new : AreaTreeView) (changed : Bool)
@@ -29,6 +29,7 @@ pub readied : (old prepared new : AreaTreeView) (changed : Bool)
         roomy = true;
         elapsed = prepared.tree.elapsed;
         scans = prepared.tree.scans;
+        found = prepared.tree.found;
         pins = prepared.tree.pins;
         free = prepared.tree.free;
       };
@@ -40,6 +41,7 @@ pub readied : (old prepared new : AreaTreeView) (changed : Bool)
         roomy = true;
         elapsed = new.tree.elapsed;
         scans = new.tree.scans;
+        found = new.tree.found;
         pins = new.tree.pins;
         free = new.tree.free;
       };
@@ -49,6 +51,7 @@ readied old prepared new changed same scanned_on =
       tree = record t.tree {
         elapsed = new.tree.elapsed;
         scans = new.tree.scans;
+        found = new.tree.found;
         pins = new.tree.pins;
         free = new.tree.free;
       };
@@ -60,10 +63,27 @@ readied old prepared new changed same scanned_on =
         roomy = true;
         elapsed = new.tree.elapsed;
         scans = new.tree.scans;
+        found = new.tree.found;
         pins = new.tree.pins;
         free = new.tree.free;
       };
     }) (sym stays)
+
+-- one round more looks at each pin once more
+round_sum : (rounds pins : ℕ) → (rounds + 1) * pins ≡ rounds * pins + pins
+round_sum rounds pins = grind arith
+
+pub round_more : (first mid last : AreaTreeView) (wanted free : ℕ) (rounds : List ℕ) → mid.tree.found ≡ first.tree.found ++ rounds → All (λ free. free < wanted) rounds
+    → mid.tree.scans ≡ first.tree.scans + length rounds * length first.tree.pins → free < wanted → last.tree.found ≡ mid.tree.found ++ free ∷ []
+    → last.tree.scans ≡ mid.tree.scans + length mid.tree.pins → length mid.tree.pins ≡ length first.tree.pins
+    → (more : List ℕ) × (last.tree.found ≡ first.tree.found ++ more) × All (λ free. free < wanted) more
+    × (last.tree.scans ≡ first.tree.scans + length more * length first.tree.pins)
+round_more first mid last wanted free rounds found few scans less noted looks same = (
+  rounds ++ free ∷ [],
+  noted ∙ ap (λ (l : List ℕ). l ++ free ∷ []) found ∙ append_assoc first.tree.found rounds (free ∷ []),
+  All-append (λ free. free < wanted) rounds (free ∷ []) few (All-cons (λ free. free < wanted) free [] less (All-nil (λ free. free < wanted))),
+  omega (arith, scans, looks, same, round_sum (length rounds) (length first.tree.pins)) ∙ ap (λ n. first.tree.scans + n * length first.tree.pins) (sym (length-append rounds (free ∷ []))),
+)
 
 times_sum : (tries rounds pins : ℕ) → (tries + rounds + 1) * pins ≡ (tries + 1) * pins + rounds * pins
 times_sum tries rounds pins = grind arith

@@ -25,6 +25,7 @@ state_of state = record {
   room = state.room;
   nodes = state.store.areas.tree.table;
   number = state.store.areas.tree.number;
+  published = state.store.areas.tree.published;
   pairs = state.store.areas.tree.shown;
   elapsed = state.store.areas.tree.elapsed;
 }

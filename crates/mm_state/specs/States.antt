@@ -1,5 +1,5 @@
 -- What contracts see of the state behind the mmap lock.
-use Rattle.std.specs.Prelude.{ℕ, ◌≡◌, ◌≢◌, ◌<◌, true, false, Option, List, [], ◌∷◌, ◌++◌, map, Contains}
+use Rattle.std.specs.Prelude.{ℕ, ◌≡◌, ◌≢◌, ◌<◌, ◌+◌, true, false, Option, List, [], ◌∷◌, ◌++◌, map, Contains}
 use Rattle.mm_types.specs.declared.area.Access.{Access}
 use Rattle.mm_types.specs.declared.area.Page.{Page}
 use Rattle.mm_types.specs.declared.area.Record.{Record}
@@ -21,7 +21,8 @@ use Rattle.maple_gap.specs.Gaps.{span_of}
 
 -- The state behind the mmap lock as contracts see it: its table and configuration, the sequence, whose turn the writer has, the
 -- slots as they are, those that left and with which tree, the journal, and for how many entries it has room; the table of the nodes
--- of its trees, the number and the pairs of the present tree, and the greatest tree whose grace period has elapsed.
+-- of its trees, the number of the present tree, the sequence at which it was published, its pairs, and the greatest tree whose grace
+-- period has elapsed.
 pub record StateView : Type 0 where
   pub table : TableId
   pub config : Config
@@ -33,6 +34,7 @@ pub record StateView : Type 0 where
   pub room : ℕ
   pub nodes : TableId
   pub number : ℕ
+  pub published : ℕ
   pub pairs : List Pair
   pub elapsed : ℕ
 
@@ -75,6 +77,7 @@ HaveLeft tree left old new = (slot : ℕ) → is_detached (slot_at old slot).row
 -- A call was made and entered: the journal has exactly one entry more, of this caller, with the reply of the call's step. A touch
 -- leaves all slots but one at most as they were. A slot that was marked shows another row, an area of both lists keeps its slot, a
 -- slot that left is used again only once its tree's grace period has elapsed, and one whose area went left with the tree after the call.
+-- One tree was published, after the beginning of the call's sequence and before its end.
 pub record Enters (old new : StateView) (caller : ℕ) (call : Call) (answer : Reply) : Type 0 where
   pub entry : new.journal ≡ old.journal ++ record { caller = caller; call = call; reply = answer } ∷ []
   pub same : (new.table ≡ old.table) × (new.config ≡ old.config) × (new.room ≡ old.room)
@@ -85,3 +88,4 @@ pub record Enters (old new : StateView) (caller : ℕ) (call : Call) (answer : R
   pub stays : KeepsSlots (list_of old) (list_of new) old.slots new.slots
   pub waits : KeepsLeft new.elapsed old.left new.left old.slots new.slots
   pub gone : HaveLeft new.number new.left old.slots new.slots
+  pub publishes : (new.number ≡ old.number + 1) × (new.published ≡ old.seq + 1) × (new.seq ≡ old.seq + 2)

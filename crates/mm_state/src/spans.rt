@@ -1,5 +1,5 @@
 //! Slots that are free again, and areas that moved, as a call needs them.
-ghost use Rattle.std.specs.Prelude.{ℕ, ◌*◌, ◌≡◌, ◌↔◌, ◌≤◌, ◌<◌, ◌+◌, ◌++◌, ◌∷◌, [], true, false, List, Some, length, vec_capacity, option_to_list, IfSome, IsPermutation, IsTrue};
+ghost use Rattle.std.specs.Prelude.{ℕ, ◌*◌, ◌≡◌, ◌↔◌, ◌≤◌, ◌<◌, ◌+◌, ◌++◌, ◌∷◌, [], true, false, List, Some, length, vec_capacity, option_to_list, IfSome, IsPermutation, IsTrue, All};
 ghost use Rattle.node_slots.specs.Seats.{HasOpen};
 ghost use Rattle.area_slots.specs.Slots.{slots_left, gone_by, gone_after};
 ghost use Rattle.area_tree.specs.declared.shown.ShownArea.{ShownArea};
@@ -43,6 +43,7 @@ fn scan_for(areas: &mut AreaTree, slots: &mut AreaSlots, wanted: usize) -> bool
     requires few { length slots.old.free < wanted }
     ensures areas { IsAreaTreeScanned areas.old areas.new }
     ensures scans { areas.new.tree.scans ≡ areas.old.tree.scans + length areas.old.tree.pins }
+    ensures found { areas.new.tree.found ≡ areas.old.tree.found ++ length slots.old.free ∷ [] }
     ensures readers { length areas.new.tree.pins ≡ length areas.old.tree.pins }
     ensures elapsed { areas.old.tree.elapsed ≤ areas.new.tree.elapsed }
     ensures slots { IsFreed areas.new.tree.elapsed slots.old slots.new }
@@ -50,7 +51,8 @@ fn scan_for(areas: &mut AreaTree, slots: &mut AreaSlots, wanted: usize) -> bool
     ensures few { result ≡ false → length slots.new.free < wanted }
     ensures inside { result ≡ false → HasOpen areas.new.tree.pins }
 {
-    areas.scan();
+    let before = slots.count_free();
+    areas.scan(before);
     free_elapsed(areas, slots);
     if slots.count_free() >= wanted {
         return true;
@@ -69,7 +71,9 @@ pub(crate) fn wait_for_slots<R: Wait>(
     requires { CanFree areas.old slots.old wanted }
     ensures areas { IsAreaTreeScanned areas.old areas.new }
     ensures still { wanted ≤ length slots.old.free + length (gone_by areas.old.tree.elapsed slots.old.left) → areas.new ≡ areas.old }
-    ensures scans { (rounds : ℕ) × (areas.new.tree.scans ≡ areas.old.tree.scans + rounds * length areas.old.tree.pins) }
+    // each pin is looked at once in each of these rounds, before which too few slots were free
+    ensures scans { (rounds : List ℕ) × (areas.new.tree.found ≡ areas.old.tree.found ++ rounds) × All (λ free. free < wanted) rounds
+        × (areas.new.tree.scans ≡ areas.old.tree.scans + length rounds * length areas.old.tree.pins) }
     ensures readers { length areas.new.tree.pins ≡ length areas.old.tree.pins }
     ensures elapsed { areas.old.tree.elapsed ≤ areas.new.tree.elapsed }
     ensures slots { IsFreed areas.new.tree.elapsed slots.old slots.new }

@@ -77,6 +77,7 @@ impl MmState {
           room = entries;
           nodes = nodes.writer_state.seat.table_id;
           number = 0;
+          published = 0;
           pairs = [];
           elapsed = 0;
         }) }

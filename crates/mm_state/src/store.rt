@@ -21,7 +21,7 @@ ghost use Rattle.area_tree.specs.SpanTrees.{IsFreshWriter};
 use crate::runs::run_before;
 use crate::spans::{count_adds, has_room, is_end, pop_moved_at, store_moved, wait_for_slots};
 use area_slots::AreaSlots;
-use area_tree::{AreaTree, OpenCall, ShownArea, beside};
+use area_tree::{AreaTree, ShownArea, beside};
 use mm_types::{Config, Entry, NoMemory, Record, Slot, Span, pack, slots_for};
 use node_slots::NodeWriter;
 use split_merge::Change;
@@ -42,21 +42,6 @@ pub(crate) struct AreaStore {
     pub(crate) slots: AreaSlots,
     /// The areas that the open call brings at other pages than their slots showed before, until the tree has them.
     pub(crate) moved: Vec<ShownArea>,
-}
-
-/// The writer's seat in an open call.
-#[derive(Drop)]
-struct Opened<'a> {
-    writer: &'a WriterSeat,
-}
-
-impl OpenCall for Opened<'_> {
-    ghost use Rattle.std.specs.Prelude.{length};
-    ghost use Rattle.vma_lock.specs.Seats.{HasOpenCall, journal};
-
-    ghost is_open = { λ call. HasOpenCall call.writer.now };
-
-    ghost calls = { λ call. length (journal call.writer.now) };
 }
 
 /// Marks a slot, once no reader holds it, and writes its row.
@@ -119,7 +104,7 @@ impl AreaStore {
         ensures none { IfOk result (λ store. areas_of store.areas ≡ []) }
         ensures bounds { IfOk result (λ store. (store.areas.bounds ≡ bounds_of config.now) × (store.areas.tree.areas ≡ config.now.areas)) }
         ensures writer { IfOk result (λ store. (store.writer ≡ writer) × (table_config store.table ≡ (lock_sight writer).config)) }
-        ensures tree { IfOk result (λ store. (store.areas.tree.table ≡ nodes.writer_state.seat.table_id) × (store.areas.tree.number ≡ 0) × (store.areas.tree.shown ≡ [])
+        ensures tree { IfOk result (λ store. (store.areas.tree.table ≡ nodes.writer_state.seat.table_id) × (store.areas.tree.number ≡ 0) × (store.areas.tree.published ≡ 0) × (store.areas.tree.shown ≡ [])
             × (store.areas.tree.elapsed ≡ 0) × (store.slots.left ≡ [])) }
     {
         let table = writer.table()?;
@@ -228,6 +213,7 @@ impl AreaStore {
         ensures areas { self.new.areas ≡ record self.old.areas {
           tree = record self.old.areas.tree {
             number = self.old.areas.tree.number + 1;
+            published = (lock_sight self.old.writer).writer_state.seq;
             shown = self.old.areas.tree.pairs;
             changed = false;
             roomy = false;
@@ -236,9 +222,7 @@ impl AreaStore {
         } }
         ensures elapsed { self.old.areas.tree.elapsed ≤ self.new.areas.tree.elapsed }
     {
-        self.areas.publish(&Opened {
-            writer: &self.writer,
-        });
+        self.areas.publish(&self.writer);
     }
 
     /// Carries out the changes of a plan, from the last on, but for the areas that come to other pages, most of which have moved. What

@@ -5,8 +5,8 @@
 // The problem. A reader walks the tree while the writer replaces nodes, and neither waits for the other. When may the writer use a row again that
 // it left out of the tree? Linux asks RCU. Here the table itself can tell: each reader has a pin, and the writer looks at all pins.
 //
-// The words, in the order in which they lie. The root word and each pin have a cache line of their own, so that readers don't take one from
-// another:
+// The words, in the order in which they lie. The root word and each pin are eight words apart, as many as a cache line has, so that no two of them
+// share a line, wherever the block begins, and readers don't take one from another:
 //
 //    root word              number of the tree (40 bits) | height (4) | row of its root (20)        the writer stores it: `publish`
 //    pin of reader 0, 1 ..  even: closed; odd: open. Rises by one at each `open` and `close`        its reader adds to it
@@ -36,6 +36,9 @@
 // shared access. A store of a shared word costs some 7 ns (sequentially consistent), a compare nothing. For the same reason `take_row_for` gives
 // a node's new version the row of its version before the last (choosing.rt). If this goes wrong, only time is lost.
 //
+// What is counted: each row that is read for the writer, on a count (`Reads`) that only a leave begins (`MayCount`). A search is handed a count and
+// no leave, so its bound is on all that it reads.
+//
 // To be changed freely: which free row is taken. Not to be changed: the order open, root, words, close; that rows are stored only while free;
 // that a row that waits is freed only up to the tree for which each reader is cleared (`Clearing` of grace_core); and the single writer:
 // `NodeTable::new` makes one NodeWriter, which can't be copied, and it lies behind the mmap lock.
@@ -52,6 +55,7 @@ mod note;
 mod opening;
 mod places;
 mod reading;
+mod reads;
 mod rows;
 mod rule;
 mod seats;
@@ -61,6 +65,7 @@ mod writing;
 
 pub use first_words::FirstWords;
 pub use left::Left;
+pub use reads::{MayCount, Reads};
 pub use seats::{NodeSeat, NodeTable, NodeWriter};
 pub use tree::Tree;
 pub use view::{Known, NodeSeatKind, NodeView, SeenTree, SeenWriterState, ShownTree, Size};

@@ -1,4 +1,4 @@
-//! Where the words of a table stand: each pin has a cache line of its own, and so has the root word, which is the first.
+//! Where the words of a table stand: the root word is the first, and it and the pins are a cache line apart.
 ghost use Rattle.std.specs.Prelude.{◌≡◌, ◌<◌};
 ghost use Rattle.node_slots.specs.Places.{pin_place, row_place, word_place};
 

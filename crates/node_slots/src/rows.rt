@@ -12,10 +12,11 @@ ghost use Rattle.node_slots.specs.Seats.{size_of, WritesNodeTable, StaysAt, node
 
 use crate::choosing::{note_replaced, note_spot};
 use crate::left::Left;
+use crate::reads::Reads;
 use crate::seats::{NodeTable, NodeWriter};
 use grace_core::least;
 use maple_node::{NODE_WORDS, Root};
-use mm_types::{NoMemory, Row, Steps};
+use mm_types::{NoMemory, Row};
 use std::sync::Arc;
 
 /// The words of a row that was never filled.
@@ -112,19 +113,14 @@ impl NodeTable {
         writer.free.len() as u32
     }
 
-    /// The words that the table has in a row. Counts one step. Nothing else reads a row for the writer.
-    pub fn written<'a, L>(
-        &self,
-        writer: &'a NodeWriter,
-        row: Row,
-        steps: &mut Steps<L>,
-    ) -> &'a [u64; 32]
+    /// The words that the table has in a row. Counts one read. Nothing else reads a row for the writer.
+    pub fn written<'a>(&self, writer: &'a NodeWriter, row: Row, reads: &mut Reads) -> &'a [u64; 32]
         requires table { WritesNodeTable writer.now self.now }
         requires row { row.0 < row_count writer.now }
         ensures words { result.now ≡ words_at writer.now row.0 }
-        ensures steps { steps.new ≡ steps.old + 1 }
+        ensures reads { reads.new ≡ reads.old + 1 }
     {
-        steps.tick();
+        reads.add();
         match writer.writer_state.words.get(row.0 as usize) {
             Some(words) => words,
             None => &EMPTY_ROW,

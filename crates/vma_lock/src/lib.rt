@@ -6,12 +6,12 @@
 // This crate places the words, and says of each access which event of the protocol it is (rule.rs names them), so that the proof of the state is
 // the proof of the words.
 //
-// The words. The sequence has a cache line of its own, and so has each slot, so that readers of neighbouring slots don't take a line from each
-// other:
+// The words. The sequence and each slot have eight words, as many as a cache line has, so that no two mark words share a line, wherever the block
+// begins. Where it begins at a line, which the allocator decides, readers of neighbouring slots share none at all:
 //
 //                  word                                              a call                        a reader
-//    line 0        seq                                               begin, end                    look
-//    line 1 + k    mark word of slot k: lock sequence * 256 + count  try_mark                      add + 1, sub - 1
+//    eight 0       seq                                               begin, end                    look
+//    eight 1 + k   mark word of slot k: lock sequence * 256 + count  try_mark                      add + 1, sub - 1
 //                  four words of its row                             write_row, once it is marked  read_row, while validated
 //                  three words are unused
 //

@@ -18,6 +18,13 @@ impl WriterSeat {
         self.seq / 2 - 1
     }
 
+    /// The sequence: odd while a call is open.
+    pub fn sequence(&self) -> u64
+        ensures { result ≡ (lock_sight self.now).writer_state.seq }
+    {
+        self.seq
+    }
+
     /// Another handle of the writer's table.
     pub fn table(&self) -> Result<VmaTable, NoMemory>
         ensures { IfOk result (λ table. WritesVmaTable self.now table × (table_config table ≡ (lock_sight self.now).config)) }

@@ -1,4 +1,4 @@
-//! Where the words of a table stand: the sequence has a cache line of its own, and so has each slot.
+//! Where the words of a table stand: the sequence has as many as a cache line, and so has each slot.
 ghost use Rattle.std.specs.Prelude.{◌≡◌, ◌<◌, ◌+◌, ◌*◌};
 ghost use Rattle.mm_types.specs.Config.{IsValidConfig};
 ghost use Rattle.vma_lock.specs.Views.{slot_count};
@@ -17,7 +17,7 @@ pub(crate) const COUNTS: u64 = 256;
 pub(crate) fn mark_place(slot: u32) -> usize
     ensures { result ≡ mark_place slot }
 {
-    // the first line is that of the sequence
+    // the first eight are those of the sequence
     (slot as usize + 1) * LINE
 }
 

@@ -13,7 +13,7 @@ padded_records slots written = written ++ replicate (slots - length written) no_
 abbrev pub records_of : Inside → List Record
 records_of fields = padded_records fields.slots fields.shown.items
 
--- there is room for a record for each slot, and no more are written
+-- there is room for a record for each slot and for no more, and no more are written
 pub record AreKept (fields : Inside) : Type 0 where
   pub few : length fields.shown.items ≤ fields.slots
-  pub room : fields.slots ≤ vec_capacity fields.shown
+  pub room : vec_capacity fields.shown ≡ fields.slots

@@ -53,7 +53,7 @@ pub record CanFree (areas : AreaTreeView) (set : SlotSet) (wanted : ℕ) : Type 
 -- scans of the pins of readers changed the tree of areas alone in what they found
 abbrev pub IsAreaTreeScanned : AreaTreeView → AreaTreeView → Type 0
 IsAreaTreeScanned old new = new
-    ≡ record old { tree = record old.tree { elapsed = new.tree.elapsed; scans = new.tree.scans; pins = new.tree.pins; free = new.tree.free } }
+    ≡ record old { tree = record old.tree { elapsed = new.tree.elapsed; scans = new.tree.scans; found = new.tree.found; pins = new.tree.pins; free = new.tree.free } }
 
 -- the areas are in a tree as before but for its pairs and free rows, with other records
 abbrev pub HasSameAreaTree : AreaTreeView → AreaTreeView → Type 0
@@ -207,15 +207,18 @@ pub record KeepsTree (store : AreaStore) : Type 0 where
   pub spare : vec_capacity store.moved ≡ (table_config store.table).areas
 
 -- The tree is prepared, as many slots are free as some changes need, and nothing else changed. The pin of each reader was looked at in
--- one scan or more, and in one alone where as many rows and slots were free already.
+-- one scan, in one more for each of these tries, before which too few rows were free, and in one more for each of these rounds, before
+-- which too few slots were; so in one alone where as many rows and slots were free already.
 pub record IsReadied (old new : AreaStore) (changes : List Change) : Type 0 where
   pub table : new.table ≡ old.table
   pub writer : new.writer ≡ old.writer
   pub moved : new.moved ≡ old.moved
-  pub areas : new.areas ≡ record old.areas { tree = record old.areas.tree { changed = new.areas.tree.changed; roomy = true; elapsed = new.areas.tree.elapsed; scans = new.areas.tree.scans; pins = new.areas.tree.pins; free = new.areas.tree.free } }
+  pub areas : new.areas ≡ record old.areas { tree = record old.areas.tree { changed = new.areas.tree.changed; roomy = true; elapsed = new.areas.tree.elapsed; scans = new.areas.tree.scans; found = new.areas.tree.found; pins = new.areas.tree.pins; free = new.areas.tree.free } }
   pub slots : IsFreed new.areas.tree.elapsed old.slots new.slots
   pub free : adds_of changes ≤ length new.slots.free
-  pub scans : (more : ℕ) × (new.areas.tree.scans ≡ old.areas.tree.scans + (more + 1) * length old.areas.tree.pins)
+  pub scans : (tries rounds : List ℕ) × (new.areas.tree.found ≡ old.areas.tree.found ++ (old.areas.tree.free ∷ tries) ++ rounds)
+      × All (λ free. free < enough old.areas.tree.areas) tries × All (λ free. free < adds_of changes) rounds
+      × (new.areas.tree.scans ≡ old.areas.tree.scans + (length tries + length rounds + 1) * length old.areas.tree.pins)
   pub once : enough old.areas.tree.areas ≤ old.areas.tree.free
       → adds_of changes ≤ length old.slots.free + length (gone_by old.areas.tree.elapsed old.slots.left)
       → new.areas.tree.scans ≡ old.areas.tree.scans + length old.areas.tree.pins
@@ -245,7 +248,7 @@ pub record IsEntered (store : AreaStore) (changes : List Change) (entry : Entry)
 
 -- A call's plan made its list of the areas, and its entry stands last in the journal. At most as many slots as it has changes are
 -- other than before. A slot that was marked shows another row, an area of both lists keeps its slot, a slot that left after the
--- elapsed tree is as it was, and one whose area went left with the new tree.
+-- elapsed tree is as it was, and one whose area went left with the new tree. One tree was published, while the sequence was odd.
 pub record IsCarriedOut (old new : AreaStore) (changes : List Change) (entry : Entry) : Type 0 where
   pub entered : journal new.writer ≡ journal old.writer ++ entry ∷ []
   pub areas : areas_of new.areas ≡ applied changes (areas_of old.areas)
@@ -257,3 +260,5 @@ pub record IsCarriedOut (old new : AreaStore) (changes : List Change) (entry : E
   pub stays : KeepsSlots (areas_of old.areas) (applied changes (areas_of old.areas)) (slots old.writer) (slots new.writer)
   pub waits : KeepsLeft new.areas.tree.elapsed old.slots.left new.slots.left (slots old.writer) (slots new.writer)
   pub gone : HaveLeft new.areas.tree.number new.slots.left (slots old.writer) (slots new.writer)
+  pub publishes : (new.areas.tree.number ≡ old.areas.tree.number + 1) × (new.areas.tree.published ≡ (lock_sight old.writer).writer_state.seq + 1)
+      × ((lock_sight new.writer).writer_state.seq ≡ (lock_sight old.writer).writer_state.seq + 2)

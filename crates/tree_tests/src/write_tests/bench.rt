@@ -4,8 +4,8 @@ ghost use Rattle.maple_node.specs.Words.{slot_word};
 ghost use Rattle.node_slots.specs.Seats.{WritesNodeTable, free_of};
 
 use maple_write::{publish_tree, store};
-use mm_types::{NoMemory, Page, Row, Slot, Span, Steps};
-use node_slots::{NodeTable, NodeWriter, Tree};
+use mm_types::{NoMemory, Page, Row, Slot, Span};
+use node_slots::{MayCount, NodeTable, NodeWriter, Tree};
 use std::alloc::Global;
 use std::marker::Model;
 
@@ -18,9 +18,6 @@ const SLOTS: u32 = 4096;
 /// How many trees are published at most.
 const TREES: u64 = 1000;
 
-/// The looks at rows, which nobody counts here.
-struct Looks;
-
 /// A tree that the writer builds in a table.
 #[derive(Drop)]
 pub(super) struct Bench {
@@ -29,6 +26,8 @@ pub(super) struct Bench {
     tree: Tree,
     /// The number of the present tree.
     published: u64,
+    /// With it a count of the rows that are read is begun, which nobody looks at here.
+    may: MayCount,
 }
 
 impl Model for Bench {
@@ -48,12 +47,14 @@ impl Bench {
     pub(super) fn open(alloc: Global, limit: Page) -> Result<Bench, NoMemory>
         requires { 0 < limit.0 }
     {
-        let (nodes, writer, _seats) = NodeTable::new(alloc, ROWS, SLOTS, 1)?;
+        let (nodes, mut writer, _seats) = NodeTable::new(alloc, ROWS, SLOTS, 1)?;
+        let may = writer.may_count();
         Ok(Bench {
             nodes,
             writer,
             tree: Tree::new(limit),
             published: 0,
+            may,
         })
     }
 
@@ -70,7 +71,14 @@ impl Bench {
         if !is_ready(&self.nodes, &self.writer, &self.tree, span, slot) {
             return false;
         }
-        store(&self.nodes, &mut self.writer, &mut self.tree, span, slot);
+        store(
+            &self.nodes,
+            &mut self.writer,
+            self.may,
+            &mut self.tree,
+            span,
+            slot,
+        );
         span.lo < span.hi
     }
 
@@ -82,7 +90,14 @@ impl Bench {
         if !changes || self.tree.height > 8 || self.published >= TREES {
             return false;
         }
-        store(&self.nodes, &mut self.writer, &mut self.tree, span, slot);
+        store(
+            &self.nodes,
+            &mut self.writer,
+            self.may,
+            &mut self.tree,
+            span,
+            slot,
+        );
         publish_tree(&self.nodes, &mut self.writer, &self.tree);
         self.published += 1;
         true
@@ -98,9 +113,7 @@ impl Bench {
         if row.0 >= ROWS {
             return None;
         }
-        let words = self
-            .nodes
-            .written(&self.writer, row, &mut Steps::<Looks>::new());
+        let words = self.nodes.written(&self.writer, row, &mut self.may.begin());
         Some(*words)
     }
 }

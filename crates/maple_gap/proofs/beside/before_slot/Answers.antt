@@ -13,8 +13,8 @@ use Rattle.maple_gap.proofs.Searching.{entries_of_root}
 use Rattle.maple_gap.proofs.Neighbours.{word_of_found, before_none, before_here, before_first, before_gap, edge_of}
 use Rattle.maple_gap.proofs.beside.before_slot.Goals as goal
 
-pub returns-then-above-eq0 : goal.returns-then-above-eq0
-returns-then-above-eq0 c =
+pub returns-then-above-eq0-clause-slot : goal.returns-then-above-eq0-clause-slot
+returns-then-above-eq0-clause-slot c =
     let root = c.root_of-root.result in
     let is = c.root_of-root.ensures.root in
     let page = c.args.page.0 in
@@ -30,8 +30,8 @@ slot_of-requires c =
     word_of_found _ (entries_under (words_at c.args.writer.now) c.root_of-root.result) c.entry_at-here.result.item
     c.root_of-root.ensures.root.numbered c.entry_at-here.ensures.item
 
-pub returns-then-here-ne0 : goal.returns-then-here-ne0
-returns-then-here-ne0 c =
+pub returns-then-here-ne0-clause-slot : goal.returns-then-here-ne0-clause-slot
+returns-then-here-ne0-clause-slot c =
     let root = c.root_of-root.result in
     let is = c.root_of-root.ensures.root in
     let page = c.args.page.0 in
@@ -46,8 +46,8 @@ returns-then-here-ne0 c =
     ∙ before_here page (above - 1) 0 None entries c.entry_at-here.result.item all.ascends (omega arith) (omega arith) edge c.entry_at-here.ensures.item c.if-here-ne0.true
     ∙ ap (λ (ps : List Pair). slot_in (last_pair_before ps page)) is.pairs
 
-pub returns-then-here-eq0 : goal.returns-then-here-eq0
-returns-then-here-eq0 c =
+pub returns-then-here-eq0-clause-slot : goal.returns-then-here-eq0-clause-slot
+returns-then-here-eq0-clause-slot c =
     let root = c.root_of-root.result in
     let is = c.root_of-root.ensures.root in
     let page = c.args.page.0 in
@@ -81,8 +81,8 @@ slot_of-requires-2 c =
     word_of_found _ (entries_under (words_at c.args.writer.now) c.root_of-root.result) c.entry_at-before.result.item
     c.root_of-root.ensures.root.numbered c.entry_at-before.ensures.item
 
-pub returns : goal.returns
-returns c =
+pub returns-clause-slot : goal.returns-clause-slot
+returns-clause-slot c =
     let root = c.root_of-root.result in
     let is = c.root_of-root.ensures.root in
     let page = c.args.page.0 in

@@ -9,8 +9,8 @@ use Rattle.maple_gap.proofs.Finding.{whole_item, item_above}
 use Rattle.maple_gap.proofs.Neighbours.{word_of_found, next_none, next_here, next_last, next_gap}
 use Rattle.maple_gap.proofs.beside.next_slot.Goals as goal
 
-pub returns-then-page-limit : goal.returns-then-page-limit
-returns-then-page-limit c =
+pub returns-then-page-limit-clause-slot : goal.returns-then-page-limit-clause-slot
+returns-then-page-limit-clause-slot c =
     let root = c.root_of-root.result in
     let is = c.root_of-root.ensures.root in
     let page = c.args.page.0 in
@@ -29,8 +29,8 @@ slot_of-requires c =
     word_of_found _ (entries_under (words_at c.args.writer.now) c.root_of-root.result) c.entry_at-here.result.item
     c.root_of-root.ensures.root.numbered found
 
-pub returns-then-here-ne0 : goal.returns-then-here-ne0
-returns-then-here-ne0 c =
+pub returns-then-here-ne0-clause-slot : goal.returns-then-here-ne0-clause-slot
+returns-then-here-ne0-clause-slot c =
     let leaf = c.leaf_at-leaf in
     let found = whole_item (words_at c.args.writer.now) c.root_of-root.result leaf.result c.args.page.0 c.entry_at-here.result.item
     leaf.ensures.same leaf.ensures.above leaf.ensures.within c.entry_at-here.ensures.item in
@@ -40,8 +40,8 @@ returns-then-here-ne0 c =
     c.slot_of.ensures ∙ next_here page 0 entries c.entry_at-here.result.item found c.if-here-ne0.true
     ∙ ap (λ (ps : List Pair). slot_in (first_pair_from ps page)) c.root_of-root.ensures.root.pairs
 
-pub returns-then-here-limit : goal.returns-then-here-limit
-returns-then-here-limit c =
+pub returns-then-here-limit-clause-slot : goal.returns-then-here-limit-clause-slot
+returns-then-here-limit-clause-slot c =
     let leaf = c.leaf_at-leaf in
     let found = whole_item (words_at c.args.writer.now) c.root_of-root.result leaf.result c.args.page.0 c.entry_at-here.result.item
     leaf.ensures.same leaf.ensures.above leaf.ensures.within c.entry_at-here.ensures.item in
@@ -61,8 +61,8 @@ slot_of-requires-2 c =
     word_of_found _ (entries_under (words_at c.args.writer.now) c.root_of-root.result) c.entry_near-next.result.item
     c.root_of-root.ensures.root.numbered c.entry_near-next.ensures.item
 
-pub returns : goal.returns
-returns c =
+pub returns-clause-slot : goal.returns-clause-slot
+returns-clause-slot c =
     let leaf = c.leaf_at-leaf in
     let found = whole_item (words_at c.args.writer.now) c.root_of-root.result leaf.result c.args.page.0 c.entry_at-here.result.item
     leaf.ensures.same leaf.ensures.above leaf.ensures.within c.entry_at-here.ensures.item in

@@ -10,13 +10,13 @@ use Rattle.maple_gap.proofs.Descents.{seen, begun, went, stuck, ended, if_spare}
 use Rattle.maple_gap.proofs.branch.descend.Goals as goal
 
 pub loop-branch-init : goal.loop-branch-init
-loop-branch-init g c = record {
+loop-branch-init c = record {
   going = begun c.args.side c.args.window (words_at c.args.writer.now) c.args.from c.requires.branch c.requires.room;
   cost = omega arith;
 }
 
 pub words-words-requires : goal.words-words-requires
-words-words-requires g c =
+words-words-requires c =
     let branch = c.loop-branch.branch in
     let going = c.loop-branch.invariant.going in
     let level = branch.level - 1 in
@@ -27,7 +27,7 @@ words-words-requires g c =
     (node_under at going.limit branch.level level branch.place.start branch.place.item e going.under)
 
 pub returns-in_default-clause-best : goal.returns-in_default-clause-best
-returns-in_default-clause-best g c =
+returns-in_default-clause-best c =
     let branch = c.loop-branch.branch in
     let going = c.loop-branch.invariant.going in
     let level = branch.level - 1 in
@@ -40,7 +40,7 @@ returns-in_default-clause-best g c =
     (stuck c.args.side c.args.window at c.args.from branch c.loop-branch.spare level c.choose-choice.result.first c.choose-choice.result.second going e looked c.in_default.is)
 
 pub returns-in_default-clause-far : goal.returns-in_default-clause-far
-returns-in_default-clause-far g c = λ far.
+returns-in_default-clause-far c = λ far.
     let branch = c.loop-branch.branch in
     let going = c.loop-branch.invariant.going in
     let level = branch.level - 1 in
@@ -53,11 +53,11 @@ returns-in_default-clause-far g c = λ far.
     ∙ stuck c.args.side c.args.window at c.args.from branch c.loop-branch.spare level c.choose-choice.result.first c.choose-choice.result.second going e looked c.in_default.is
 
 pub returns-in_default-clause-spare : goal.returns-in_default-clause-spare
-returns-in_default-clause-spare g c =
+returns-in_default-clause-spare c =
     if_spare c.args.side c.args.window (words_at c.args.writer.now) c.args.from c.loop-branch.branch.place c.loop-branch.spare c.loop-branch.invariant.going.rest
 
 pub loop-branch-preserved : goal.loop-branch-preserved
-loop-branch-preserved g c =
+loop-branch-preserved c =
     let branch = c.loop-branch.branch in
     let going = c.loop-branch.invariant.going in
     let cost = c.loop-branch.invariant.cost in
@@ -74,7 +74,7 @@ loop-branch-preserved g c =
     })
 
 pub returns-clause-best : goal.returns-clause-best
-returns-clause-best g c =
+returns-clause-best c =
     let branch = c.loop-branch.branch in
     let going = c.loop-branch.invariant.going in
     let at = words_at c.args.writer.now in
@@ -83,7 +83,7 @@ returns-clause-best g c =
     (ended c.args.side c.args.window at c.args.from branch c.loop-branch.spare going (omega arith) ∙ ap (λ n. Some n) (sym c.edge.ensures))
 
 pub returns-clause-far : goal.returns-clause-far
-returns-clause-far g c = λ far.
+returns-clause-far c = λ far.
     let branch = c.loop-branch.branch in
     let going = c.loop-branch.invariant.going in
     let at = words_at c.args.writer.now in
@@ -91,5 +91,5 @@ returns-clause-far g c = λ far.
     (going.far far).1 ∙ ended c.args.side c.args.window at c.args.from branch c.loop-branch.spare going (omega arith) ∙ ap (λ n. Some n) (sym c.edge.ensures)
 
 pub returns-clause-spare : goal.returns-clause-spare
-returns-clause-spare g c =
+returns-clause-spare c =
     if_spare c.args.side c.args.window (words_at c.args.writer.now) c.args.from c.loop-branch.branch.place c.loop-branch.spare c.loop-branch.invariant.going.rest

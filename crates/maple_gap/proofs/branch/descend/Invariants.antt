@@ -5,10 +5,10 @@ use Rattle.maple_gap.proofs.Descents.{Going}
 use Rattle.maple_gap.proofs.branch.descend.Given as goal
 
 abbrev pub invariant-loop-branch : goal.invariant-loop-branch
-invariant-loop-branch g l = record {
+invariant-loop-branch l = record {
   going : Going l.side l.window (words_at l.writer) l.fn.from l.branch l.spare;
-  cost : l.steps + l.branch.level ≤ l.fn.steps + l.fn.from.level;
+  cost : l.reads + l.branch.level ≤ l.fn.reads + l.fn.from.level;
 }
 
 abbrev pub decreases-loop-branch : goal.decreases-loop-branch
-decreases-loop-branch g l = l.branch.level
+decreases-loop-branch l = l.branch.level

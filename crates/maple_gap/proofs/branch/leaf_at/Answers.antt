@@ -9,51 +9,58 @@ use Rattle.maple_gap.proofs.Finding.{around_root, reach_node, inside, around_dow
 use Rattle.maple_gap.proofs.branch.leaf_at.Goals as goal
 
 pub loop-branch-init : goal.loop-branch-init
-loop-branch-init g c =
-    around_root (words_at c.args.writer.now) c.args.page c.args.root c.requires.branch c.requires.above c.requires.within
+loop-branch-init c = record {
+  around = around_root (words_at c.args.writer.now) c.args.page c.args.root c.requires.branch c.requires.above c.requires.within;
+  low = omega arith;
+  cost = omega arith;
+}
 
 pub words-words-requires : goal.words-words-requires
-words-words-requires g c =
+words-words-requires c =
     let branch = c.loop-branch.branch in
-    let reached = c.loop-branch.invariant.here in
+    let reached = c.loop-branch.invariant.around.here in
     let level = branch.level - 1 in
     let test = c.loop-branch-test.true in
     node_there c.args.writer.now (is_leaf level) reached.limit branch.place.start (with_gap reached.gap branch.place.item)
     (reach_node (words_at c.args.writer.now) c.args.page c.args.root branch level reached (omega arith))
 
 pub item_in-requires-clause-ascends : goal.item_in-requires-clause-ascends
-item_in-requires-clause-ascends g c =
+item_in-requires-clause-ascends c =
     let branch = c.loop-branch.branch in
     let level = branch.level - 1 in
     let test = c.loop-branch-test.true in
-    (inside (words_at c.args.writer.now) c.args.page c.args.root branch level false (node_items false c.words-words.result.now) c.loop-branch.invariant.here (omega arith) (not_leaf branch.level test)
+    (inside (words_at c.args.writer.now) c.args.page c.args.root branch level false (node_items false c.words-words.result.now) c.loop-branch.invariant.around.here (omega arith) (not_leaf branch.level test)
     (ap (node_items false) c.words-words.ensures.words)).ascends
 
 pub item_in-requires-clause-within : goal.item_in-requires-clause-within
-item_in-requires-clause-within g c =
+item_in-requires-clause-within c =
     let branch = c.loop-branch.branch in
     let level = branch.level - 1 in
     let test = c.loop-branch-test.true in
-    (inside (words_at c.args.writer.now) c.args.page c.args.root branch level false (node_items false c.words-words.result.now) c.loop-branch.invariant.here (omega arith) (not_leaf branch.level test)
+    (inside (words_at c.args.writer.now) c.args.page c.args.root branch level false (node_items false c.words-words.result.now) c.loop-branch.invariant.around.here (omega arith) (not_leaf branch.level test)
     (ap (node_items false) c.words-words.ensures.words)).within
 
 pub loop-branch-preserved : goal.loop-branch-preserved
-loop-branch-preserved g c =
+loop-branch-preserved c =
     let branch = c.loop-branch.branch in
     let level = branch.level - 1 in
     let test = c.loop-branch-test.true in
-    around_down (words_at c.args.writer.now) c.args.page c.args.root branch level false (node_items false c.words-words.result.now) c.item_in.result c.loop-branch.invariant
-    (omega arith) (not_leaf branch.level test) (ap (node_items false) c.words-words.ensures.words) c.item_in.ensures.item c.item_in.ensures.start
+    record {
+      around = around_down (words_at c.args.writer.now) c.args.page c.args.root branch level false (node_items false c.words-words.result.now) c.item_in.result c.loop-branch.invariant.around
+          (omega arith) (not_leaf branch.level test) (ap (node_items false) c.words-words.ensures.words) c.item_in.ensures.item c.item_in.ensures.start;
+      low = omega (arith, c.loop-branch.invariant.low);
+      cost = omega (arith, c.loop-branch.invariant.cost, c.words-words.ensures.reads);
+    }
 
 pub returns-clause-branch : goal.returns-clause-branch
-returns-clause-branch g c = let reached = c.loop-branch.invariant.here in record { limit = reached.limit; gap = reached.gap; under = reached.under }
+returns-clause-branch c = let reached = c.loop-branch.invariant.around.here in record { limit = reached.limit; gap = reached.gap; under = reached.under }
 
 pub returns-clause-above : goal.returns-clause-above
-returns-clause-above g c = c.loop-branch.invariant.here.above
+returns-clause-above c = c.loop-branch.invariant.around.here.above
 
 pub returns-clause-within : goal.returns-clause-within
-returns-clause-within g c = c.loop-branch.invariant.here.within
+returns-clause-within c = c.loop-branch.invariant.around.here.within
 
 pub returns-clause-same : goal.returns-clause-same
-returns-clause-same g c =
-    around_part (words_at c.args.writer.now) c.args.page c.args.root c.loop-branch.branch c.loop-branch.invariant
+returns-clause-same c =
+    around_part (words_at c.args.writer.now) c.args.page c.args.root c.loop-branch.branch c.loop-branch.invariant.around

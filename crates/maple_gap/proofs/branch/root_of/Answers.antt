@@ -8,13 +8,13 @@ use Rattle.maple_gap.proofs.Roots.{root_there, gap_root, whole_root}
 use Rattle.maple_gap.proofs.branch.root_of.Goals as goal
 
 pub words-words-requires : goal.words-words-requires
-words-words-requires g c =
+words-words-requires c =
     let there = root_there c.args.writer.now c.args.tree.now c.requires.tree in
     let same = c.from-row.ensures in
     omega arith
 
 pub returns-then-lists_nothing-clause-root : goal.returns-then-lists_nothing-clause-root
-returns-then-lists_nothing-clause-root g c =
+returns-then-lists_nothing-clause-root c =
     let tree = c.args.tree.now in
     let writer = c.args.writer.now in
     let leaf = is_leaf (tree.height - 1) in
@@ -23,7 +23,7 @@ returns-then-lists_nothing-clause-root g c =
     gap_root writer tree items c.requires.tree are (ap (λ (xs : List NodeItem). length xs) (c.lists_nothing.ensures.none leaf c.if-lists_nothing.true))
 
 pub returns-clause-root : goal.returns-clause-root
-returns-clause-root g c =
+returns-clause-root c =
     let tree = c.args.tree.now in
     let writer = c.args.writer.now in
     let leaf = is_leaf (tree.height - 1) in

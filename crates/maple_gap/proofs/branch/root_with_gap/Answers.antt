@@ -10,11 +10,11 @@ use Rattle.maple_gap.proofs.Roots.{any_entry, any_node, one_less, gapped}
 use Rattle.maple_gap.proofs.branch.root_with_gap.Goals as goal
 
 pub returns-then-root-eq0-clause-branch : goal.returns-then-root-eq0-clause-branch
-returns-then-root-eq0-clause-branch g c =
+returns-then-root-eq0-clause-branch c =
     any_entry (words_at c.args.writer.now) c.root_of-root.result c.root_of-root.ensures.root.branch c.if-root-eq0.true
 
 pub words-words-requires : goal.words-words-requires
-words-words-requires g c =
+words-words-requires c =
     let root = c.root_of-root.result in
     let is = c.root_of-root.ensures.root.branch in
     let test = c.if-root-eq0.false in
@@ -22,7 +22,7 @@ words-words-requires g c =
     (any_node (words_at c.args.writer.now) root is (omega arith))
 
 pub gap_in-gap-requires : goal.gap_in-gap-requires
-gap_in-gap-requires g c =
+gap_in-gap-requires c =
     let at = words_at c.args.writer.now in
     let root = c.root_of-root.result in
     let test = c.if-root-eq0.false in
@@ -31,7 +31,7 @@ gap_in-gap-requires g c =
     subst (λ (xs : List NodeItem). Ascends root.place.start xs) (sym are) (any_node at root c.root_of-root.ensures.root.branch (omega arith)).ascends
 
 pub returns-clause-root : goal.returns-clause-root
-returns-clause-root g c =
+returns-clause-root c =
     let root = c.root_of-root.result in
     let test = c.if-root-eq0.false in
     let leaf = nat_eq root.level 1 in
@@ -39,7 +39,7 @@ returns-clause-root g c =
     (one_less root.level (omega arith)) (ap (node_items leaf) c.words-words.ensures.words) c.gap_in-gap.ensures).root
 
 pub returns-clause-branch : goal.returns-clause-branch
-returns-clause-branch g c =
+returns-clause-branch c =
     let root = c.root_of-root.result in
     let test = c.if-root-eq0.false in
     let leaf = nat_eq root.level 1 in

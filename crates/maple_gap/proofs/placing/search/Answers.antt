@@ -6,7 +6,7 @@ use Rattle.maple_gap.proofs.Searching.{answered, no_room, found_first, found_non
 use Rattle.maple_gap.proofs.placing.search.Goals as goal
 
 pub returns-then-not-may_have-clause-start : goal.returns-then-not-may_have-clause-start
-returns-then-not-may_have-clause-start g c =
+returns-then-not-may_have-clause-start c =
     let root = c.root_with_gap-root.result in
     let is = c.root_with_gap-root.ensures.root in
     answered c.args.side c.args.window c.args.writer.now c.args.tree.now root None is c.requires.some c.requires.limit
@@ -14,7 +14,7 @@ returns-then-not-may_have-clause-start g c =
     (sym c.may_have.ensures ∙ c.if-not-may_have.true))
 
 pub returns-then-is_some-clause-start : goal.returns-then-is_some-clause-start
-returns-then-is_some-clause-start g c =
+returns-then-is_some-clause-start c =
     let root = c.root_with_gap-root.result in
     let down = c.descend-down.result in
     let rest = best_of c.args.side c.args.window (words_at c.args.writer.now) down.spare in
@@ -22,7 +22,7 @@ returns-then-is_some-clause-start g c =
     (found_first down.found rest _ c.descend-down.ensures.best (sym c.is_some.ensures ∙ c.if-is_some.true))
 
 pub returns-in_default-clause-start : goal.returns-in_default-clause-start
-returns-in_default-clause-start g c =
+returns-in_default-clause-start c =
     let root = c.root_with_gap-root.result in
     let down = c.descend-down.result in
     let of = best_of c.args.side c.args.window (words_at c.args.writer.now) in
@@ -30,7 +30,7 @@ returns-in_default-clause-start g c =
     (found_none down.found (of down.spare) _ c.descend-down.ensures.best (sym c.is_some.ensures ∙ c.if-is_some.false) ∙ ap of c.in_default.is)
 
 pub returns-clause-start : goal.returns-clause-start
-returns-clause-start g c =
+returns-clause-start c =
     let root = c.root_with_gap-root.result in
     let down = c.descend-down.result in
     let at = words_at c.args.writer.now in

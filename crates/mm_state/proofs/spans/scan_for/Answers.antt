@@ -1,5 +1,5 @@
 -- For `scan_for`: once every reader is closed, all that left is free.
-use Rattle.std.proofs.Common.{◌<◌, ap, arith}
+use Rattle.std.proofs.Common.{ℕ, ◌<◌, ◌∙◌, ◌++◌, ◌∷◌, [], ap, arith}
 use Rattle.std.proofs.lemmas.Bool.Decides.{nat_tests}
 use Rattle.area_tree.specs.AreaTrees.{AreaTreeView}
 use Rattle.mm_state.proofs.Hanging.{seen_freed}
@@ -7,13 +7,20 @@ use Rattle.mm_state.proofs.Scanning.{scanned, some_inside}
 use Rattle.mm_state.proofs.spans.scan_for.Goals as goal
 
 pub returns-then-count_free-wanted-clause-areas : goal.returns-then-count_free-wanted-clause-areas
-returns-then-count_free-wanted-clause-areas c = scanned c.args.areas.now c.scan.new.self _ c.scan.ensures.same
+returns-then-count_free-wanted-clause-areas c = scanned c.args.areas.now c.scan.new.self _ _ c.scan.ensures.same
+
+pub returns-then-count_free-wanted-clause-found : goal.returns-then-count_free-wanted-clause-found
+returns-then-count_free-wanted-clause-found c = ap (λ (t : AreaTreeView). t.tree.found) c.scan.ensures.same
+    ∙ ap (λ (n : ℕ). c.args.areas.now.tree.found ++ n ∷ []) c.count_free-before.ensures
 
 pub returns-then-count_free-wanted-clause-slots : goal.returns-then-count_free-wanted-clause-slots
 returns-then-count_free-wanted-clause-slots c = seen_freed c.args.slots.now c.free_elapsed.new.slots c.scan.new.self.tree.elapsed c.free_elapsed.ensures
 
 pub returns-clause-areas : goal.returns-clause-areas
-returns-clause-areas c = scanned c.args.areas.now c.scan.new.self _ c.scan.ensures.same
+returns-clause-areas c = scanned c.args.areas.now c.scan.new.self _ _ c.scan.ensures.same
+
+pub returns-clause-found : goal.returns-clause-found
+returns-clause-found c = ap (λ (t : AreaTreeView). t.tree.found) c.scan.ensures.same ∙ ap (λ (n : ℕ). c.args.areas.now.tree.found ++ n ∷ []) c.count_free-before.ensures
 
 pub returns-clause-slots : goal.returns-clause-slots
 returns-clause-slots c = seen_freed c.args.slots.now c.free_elapsed.new.slots c.scan.new.self.tree.elapsed c.free_elapsed.ensures

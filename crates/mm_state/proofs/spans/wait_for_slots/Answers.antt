@@ -1,17 +1,18 @@
 -- For `wait_for_slots`: what has elapsed is freed once more, by one round of scans more.
-use Rattle.std.proofs.Common.{◌<◌, ◌+◌, ◌∙◌, refl, length, ap, arith, length-append}
+use Rattle.std.proofs.Common.{◌<◌, ◌∙◌, [], refl, length, sym, ap, arith, length-append, append-nil}
 use Rattle.std.proofs.lemmas.Bool.Decides.{nat_tests}
 use Rattle.std.proofs.lemmas.List.{length-map}
+use Rattle.std.proofs.lemmas.List.Elements.{All-nil}
 use Rattle.area_slots.specs.declared.leaving.Leaving.{Leaving}
 use Rattle.area_slots.specs.Slots.{SlotSet, gone_by, slots_left}
 use Rattle.area_tree.specs.AreaTrees.{AreaTreeView}
 use Rattle.mm_state.proofs.Hanging.{freed_freed, seen_freed}
 use Rattle.mm_state.proofs.Readying.{can_free}
-use Rattle.mm_state.proofs.Scanning.{scanned_more}
+use Rattle.mm_state.proofs.Scanning.{scanned_more, round_more}
 use Rattle.mm_state.proofs.spans.wait_for_slots.Goals as goal
 
 pub returns-then-count_free-wanted-clause-scans : goal.returns-then-count_free-wanted-clause-scans
-returns-then-count_free-wanted-clause-scans g c = (0, omega arith)
+returns-then-count_free-wanted-clause-scans g c = ([], sym (append-nil c.args.areas.now.tree.found), All-nil (λ free. free < c.args.wanted), omega arith)
 
 pub returns-then-count_free-wanted-clause-slots : goal.returns-then-count_free-wanted-clause-slots
 returns-then-count_free-wanted-clause-slots g c = seen_freed c.args.slots.now c.free_elapsed.new.slots c.args.areas.now.tree.elapsed c.free_elapsed.ensures
@@ -36,7 +37,7 @@ loop-init g c =
         length-append c.args.slots.now.free (slots_left gone),
         length-map gone (λ (l : Leaving). l.slot),
       );
-      rounds = (0, omega arith);
+      rounds = ([], sym (append-nil c.args.areas.now.tree.found), All-nil (λ free. free < c.args.wanted), omega arith);
       readers = refl;
     }
 
@@ -53,7 +54,8 @@ loop-preserved g c =
           was.slots tried.slots tried.elapsed;
       few = tried.few c.if-scan_for.false;
       short = was.short;
-      rounds = (was.rounds.0 + 1, omega (arith, was.rounds.1, tried.scans, was.readers));
+      rounds = round_more c.args.areas.now c.loop.areas c.scan_for.new.areas c.args.wanted (length c.loop.slots.free) was.rounds.0 was.rounds.1 was.rounds.2 was.rounds.3
+          was.few tried.found tried.scans was.readers;
       readers = tried.readers ∙ was.readers;
     }
 
@@ -66,7 +68,8 @@ pub returns-then-scan_for-clause-scans : goal.returns-then-scan_for-clause-scans
 returns-then-scan_for-clause-scans g c =
     let tried = c.scan_for.ensures in
     let was = c.loop.invariant in
-    (was.rounds.0 + 1, omega (arith, was.rounds.1, tried.scans, was.readers))
+    round_more c.args.areas.now c.loop.areas c.scan_for.new.areas c.args.wanted (length c.loop.slots.free) was.rounds.0 was.rounds.1 was.rounds.2 was.rounds.3
+    was.few tried.found tried.scans was.readers
 
 pub returns-then-scan_for-clause-still : goal.returns-then-scan_for-clause-still
 returns-then-scan_for-clause-still g c = λ enough. let short = c.loop.invariant.short in absurd (omega (arith, enough, short))

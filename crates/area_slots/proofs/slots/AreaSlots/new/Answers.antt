@@ -12,6 +12,7 @@ push_reserved-requires c =
     omega (
       arith,
       c.loop-pushed.free.ok.0,
+      c.loop-pushed.invariant.room,
       ap length c.loop-pushed.invariant.counted,
       length-reverse (range_with_len low c.loop-pushed.pushed),
       length-range_with_len low c.loop-pushed.pushed,
@@ -24,7 +25,7 @@ loop-pushed-preserved c =
     record {
       counted = c.push_reserved.ensures.items ∙ ap (λ free. free ++ (slots - 1 - pushed) ∷ []) c.loop-pushed.invariant.counted
           ∙ one_below (slots - pushed) (slots - 1 - pushed) (slots - (pushed + 1)) pushed (omega arith) (omega arith);
-      room = omega (arith, c.push_reserved.ensures.capacity);
+      room = omega (arith, c.loop-pushed.invariant.room, c.push_reserved.ensures.capacity);
     }
 
 pub invariant_of-result : goal.invariant_of-result

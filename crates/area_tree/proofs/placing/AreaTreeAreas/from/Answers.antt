@@ -9,6 +9,6 @@ pub returns : goal.returns
 returns c =
     let fields = c.self.inside in
     c.shown_by.ensures
-    ∙ ap (shown_in fields.records) c.next_slot.ensures
+    ∙ ap (shown_in fields.records) c.next_slot.ensures.slot
     ∙ first_shown fields.records fields.tree.pairs c.args.page.0 c.self.invariant.spans
     ∙ ap (λ (v : AreaTreeView). first_from (areas_of v) c.args.page.0) c.self.view_is

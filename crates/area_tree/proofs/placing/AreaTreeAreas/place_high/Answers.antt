@@ -8,5 +8,5 @@ use Rattle.area_tree.proofs.placing.AreaTreeAreas.place_high.Goals as goal
 pub returns : goal.returns
 returns c =
     let fields = c.self.inside in
-    wide_found fields.records fields.bounds c.args.len fields.tree.pairs c.highest.result c.self.invariant.spans c.highest.ensures
+    wide_found fields.records fields.bounds c.args.len fields.tree.pairs c.highest.result c.self.invariant.spans c.highest.ensures.start
     ∙ ap (λ (v : AreaTreeView). place_high v.bounds (areas_of v) c.args.len) c.self.view_is

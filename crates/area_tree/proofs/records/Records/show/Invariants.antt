@@ -9,7 +9,7 @@ invariant-loop-self l = record {
   same : padded_records l.initial.self-inside.slots l.self-inside.shown.items ≡ padded_records l.initial.self-inside.slots l.initial.self-inside.shown.items;
   slots : l.self-inside.slots ≡ l.initial.self-inside.slots;
   few : length l.self-inside.shown.items ≤ l.initial.self-inside.slots;
-  room : l.initial.self-inside.slots ≤ vec_capacity l.self-inside.shown;
+  room : vec_capacity l.self-inside.shown ≡ l.initial.self-inside.slots;
 }
 
 abbrev pub decreases-loop-self : goal.decreases-loop-self

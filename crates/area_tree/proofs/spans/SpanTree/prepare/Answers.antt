@@ -1,10 +1,10 @@
 -- For `SpanTree::prepare`: the rows are there, and a tree is built.
-use Rattle.std.proofs.Common.{◌≡◌, ◌+◌, ◌*◌, ◌∙◌, true, false, length, map, arith, sym, ap, subst}
+use Rattle.std.proofs.Common.{◌≡◌, ◌<◌, ◌+◌, ◌*◌, ◌++◌, ◌∷◌, ◌∙◌, true, false, All, length, map, arith, sym, ap, subst}
 use Rattle.area_tree.specs.declared.spans.SpanTree.TheInside.{Inside}
 use Rattle.grace_core.specs.declared.clearing.Clearing.{Clearing}
 use Rattle.node_slots.specs.declared.view.NodeView.{NodeView}
 use Rattle.node_slots.specs.Seats.{node_sight, pins_of}
-use Rattle.area_tree.specs.SpanTrees.{SpanView}
+use Rattle.area_tree.specs.SpanTrees.{SpanView, enough}
 use Rattle.area_tree.specs.SpanKept.{IsSpanTree}
 use Rattle.area_tree.specs.Rows.{elapsed_of}
 use Rattle.area_tree.proofs.Counts.{writers_low}
@@ -22,15 +22,15 @@ wait_for_rows-requires-clause-comes g c =
 pub store-requires-clause-free : goal.store-requires-clause-free
 store-requires-clause-free g c =
     let fields = c.self.inside in
-    let kept = scanned_kept fields c.wait_for_rows.new.writer c.wait_for_rows.ensures.table c.wait_for_rows.ensures.scans c.self.invariant in
+    let kept = scanned_kept fields c.wait_for_rows.new.writer c.wait_for_rows.new.tally c.wait_for_rows.ensures.table c.wait_for_rows.ensures.scans c.self.invariant in
     let low = writers_low c.wait_for_rows.new.writer fields.tree fields.areas kept.tree kept.few_pairs kept.few_areas in
     omega (arith, low, c.wait_for_rows.ensures.free)
 
 pub invariant_of-self : goal.invariant_of-self
 invariant_of-self g c =
-    let fields : Inside = record c.self.inside { writer = c.wait_for_rows.new.writer } in
+    let fields : Inside = record c.self.inside { writer = c.wait_for_rows.new.writer; tally = c.wait_for_rows.new.tally } in
     let kept : IsSpanTree fields =
-    scanned_kept c.self.inside fields.writer c.wait_for_rows.ensures.table c.wait_for_rows.ensures.scans c.self.invariant in
+    scanned_kept c.self.inside fields.writer fields.tally c.wait_for_rows.ensures.table c.wait_for_rows.ensures.scans c.self.invariant in
     let still : fields.changed ≡ false = ap (λ v. v.changed) c.self.view_is ∙ c.requires in
     let free = c.wait_for_rows.ensures.free in
     elim c.if-self-eq0.branch [
@@ -59,13 +59,24 @@ pub returns-clause-scans : goal.returns-clause-scans
 returns-clause-scans g c =
     let tries = c.wait_for_rows.ensures.tries in
     let was = ap (λ (v : SpanView). v.scans) c.self.view_is in
-    let pins = ap (λ (v : SpanView). (tries.0 + 1) * length v.pins) c.self.view_is in (
+    let pins = ap (λ (v : SpanView). (length tries.0 + 1) * length v.pins) c.self.view_is in
+    let areas = ap (λ (v : SpanView). v.areas) c.self.view_is in
+    let noted = tries.1 ∙ ap (λ (v : SpanView). v.found ++ v.free ∷ tries.0) c.self.view_is in
+    let few = subst (λ n. All (λ free. free < enough n) tries.0) areas tries.2 in (
       tries.0,
       elim c.if-self-eq0.branch [
         | then-self-eq0 w ↦
             let looks = ap (λ (v : NodeView). v.scans) w.store.ensures.same.seen in
-            omega (arith, tries.1, was, pins, looks, ap (λ (f : Inside). (node_sight f.writer).scans) w.self-inside-is)
-        | else-self-eq0 w ↦ omega (arith, tries.1, was, pins, ap (λ (f : Inside). (node_sight f.writer).scans) w.self-inside-is)
+            record {
+              found = ap (λ (f : Inside). f.tally) w.self-inside-is ∙ noted;
+              few = few;
+              looks = omega (arith, tries.3, was, pins, looks, ap (λ (f : Inside). (node_sight f.writer).scans) w.self-inside-is);
+            }
+        | else-self-eq0 w ↦ record {
+          found = ap (λ (f : Inside). f.tally) w.self-inside-is ∙ noted;
+          few = few;
+          looks = omega (arith, tries.3, was, pins, ap (λ (f : Inside). (node_sight f.writer).scans) w.self-inside-is);
+        }
       ],
     )
 

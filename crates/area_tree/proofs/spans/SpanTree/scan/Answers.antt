@@ -9,7 +9,7 @@ use Rattle.area_tree.proofs.SpanFacts.{scanned_kept, scanned_elapsed}
 use Rattle.area_tree.proofs.spans.SpanTree.scan.Goals as goal
 
 pub invariant_of-self : goal.invariant_of-self
-invariant_of-self c = scanned_kept c.self.inside c.scan_once.new.writer c.scan_once.ensures.table c.scan_once.ensures.scans c.self.invariant
+invariant_of-self c = scanned_kept c.self.inside c.scan_once.new.writer c.scan_once.new.tally c.scan_once.ensures.table c.scan_once.ensures.scans c.self.invariant
 
 pub returns-clause-elapsed : goal.returns-clause-elapsed
 returns-clause-elapsed c =
@@ -24,5 +24,5 @@ returns-clause-readers c =
 pub returns-clause-gone : goal.returns-clause-gone
 returns-clause-gone c = λ out.
     let new = c.scan_once.new.writer in
-    let kept = scanned_kept c.self.inside new c.scan_once.ensures.table c.scan_once.ensures.scans c.self.invariant in
+    let kept = scanned_kept c.self.inside new c.scan_once.new.tally c.scan_once.ensures.table c.scan_once.ensures.scans c.self.invariant in
     wait-none (is_waiting new) (since_at (writer_state new).since) (writer_state new).tree.number (row_count new) (c.scan_once.ensures.gone out) ∙ kept.number

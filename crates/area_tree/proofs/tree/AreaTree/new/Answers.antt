@@ -28,6 +28,9 @@ invariant_of-result c =
       top = omega (arith, ap (λ (b : Bounds). b.top) bounds, ap (λ (b : Bounds). b.limit) bounds, c.requires.config.top.within, between.low);
       window = omega (arith, ap (λ (b : Bounds). b.limit) bounds, between.low);
       empty = c.in_ok-with_capacity.ensures.items;
-      room = omega (arith, c.in_ok-with_capacity.ensures.capacity, ap (λ (t : SpanView). t.areas) tree);
+      room = omega (arith, c.in_ok-with_capacity.ensures.exact, ap (λ (t : SpanView). t.areas) tree);
       unsealed = λ _. subst (λ (rs : List Record). All IsOpen rs) (sym records) (none_open c.slots_for.result);
     }
+
+pub new-requires-clause-fresh : goal.new-requires-clause-fresh
+new-requires-clause-fresh c = rw c.may_count-may.ensures c.requires.fresh

@@ -184,6 +184,12 @@ returns-clause-done g c =
           (between (KeepsLeft c.publish_areas.new.self.areas.tree.elapsed before.slots.left store.slots.left)
           (slots before.writer) (slots opened) (slots store.writer) (slots ended) were are
           (λ leaving member later. changing.waits leaving (freed_waits start.areas.tree.elapsed before.slots start.slots ready.slots leaving member (omega (arith, elapsed, later)))));
+      publishes = (
+        omega (arith, number, c.version-tree.ensures, ap (λ (v : View). length v.seen) begun, c.requires.rest.tree.number),
+        ap (λ (t : AreaTreeView). t.tree.published) shown
+            ∙ omega (arith, ap (λ (v : View). v.writer_state.seq) begun, changing.beside.seq),
+        omega (arith, ap (λ (v : View). v.writer_state.seq) met, changing.beside.seq, ap (λ (v : View). v.writer_state.seq) begun),
+      );
       gone = subst (λ (s : SlotSet). HaveLeft c.publish_areas.new.self.areas.tree.number s.left (slots before.writer) (slots ended)) (sym set)
           (subst (λ n. HaveLeft n store.slots.left (slots before.writer) (slots ended)) (sym number)
           (between (HaveLeft (c.version-tree.result + 1) store.slots.left) (slots before.writer) (slots opened) (slots store.writer) (slots ended) were are changing.gone));

@@ -2,7 +2,7 @@
 use Rattle.std.proofs.Common.{◌∙◌, sym, ap}
 use Rattle.node_slots.specs.Seats.{free_of}
 use Rattle.area_tree.proofs.Scanning.{scan_scans, scan_looks, more_free}
-use Rattle.area_tree.proofs.waiting.scan_once.Goals as goal
+use Rattle.area_tree.proofs.tally.scan_once.Goals as goal
 
 pub returns-clause-scans : goal.returns-clause-scans
 returns-clause-scans c =

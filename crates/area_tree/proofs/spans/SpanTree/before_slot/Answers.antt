@@ -1,0 +1,11 @@
+-- For `SpanTree::before_slot`: the tree has few levels, so few rows are read.
+use Rattle.std.proofs.Common.{arith}
+use Rattle.area_tree.proofs.Counts.{writers_low}
+use Rattle.area_tree.proofs.spans.SpanTree.before_slot.Goals as goal
+
+pub returns-clause-reads : goal.returns-clause-reads
+returns-clause-reads c =
+    let fields = c.self.inside in
+    let kept = c.self.invariant in
+    let low = writers_low fields.writer fields.tree fields.areas kept.tree kept.few_pairs kept.few_areas in
+    omega (arith, low, c.before_slot.ensures.reads)
