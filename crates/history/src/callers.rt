@@ -2,10 +2,11 @@
 ghost use Rattle.std.specs.Prelude.{◌≡◌, ◌<◌, ◌≤◌, All, List, length};
 ghost use Rattle.trace_reader.specs.declared.trace.TraceLine.{TraceLine};
 ghost use Rattle.history.specs.Histories.{caller_of, lines_of};
+ghost use Rattle.history.specs.SpaceLines.{AreSpaceLines};
 ghost use Rattle.history.specs.Threads.{counts_below, busy_below, AreCallers};
 
+use crate::space_lines::SpaceLines;
 use std::marker::Model;
-use trace_reader::TraceLine;
 
 /// How many threads a trace can have: their numbers are below it.
 pub const MOST_THREADS: usize = 64;
@@ -33,10 +34,11 @@ impl Model for Callers {
 
 impl Callers {
     /// The callers of these lines, found in one pass over them.
-    pub fn of(lines: &[TraceLine]) -> Callers
-        requires { All (λ line. line.thread < MOST_THREADS) lines.now }
-        ensures { result ≡ counts_below MOST_THREADS lines.now }
+    pub fn of(lines: &SpaceLines<'_>) -> Callers
+        ensures counted { result ≡ counts_below MOST_THREADS lines.now }
+        ensures kept { AreSpaceLines lines.now }
     {
+        let lines = lines.items();
         let mut counts = [0; MOST_THREADS];
         for line in lines {
             counts[line.thread as usize] += 1;

@@ -1,10 +1,8 @@
 //! Whether a history is legal and of a trace, found in one pass over its items.
-ghost use Rattle.std.specs.Prelude.{◌≡◌, ◌+◌, ◌-◌, ◌^◌, ◌<◌, ◌≤◌, ◌↔◌, Err, List, [], All, IsTrue, length, take, IfOk, IfErr, OnOk};
+ghost use Rattle.std.specs.Prelude.{◌≡◌, ◌+◌, ◌-◌, ◌^◌, ◌<◌, ◌≤◌, ◌↔◌, Err, List, [], IsTrue, length, take, IfOk, IfErr, OnOk};
 ghost use Rattle.mm_types.specs.Config.{IsValidConfig};
-ghost use Rattle.trace_reader.specs.Values.{AreNumbered, IsTraceValue};
-ghost use Rattle.trace_reader.specs.declared.limits.TheConstants.{MOST_LINES};
+ghost use Rattle.trace_reader.specs.Values.{IsTraceValue};
 ghost use Rattle.history.specs.declared.answers.BadEntry.{BadEntry};
-ghost use Rattle.history.specs.declared.callers.TheConstants.{MOST_THREADS};
 ghost use Rattle.history.specs.declared.items.Item.{Item};
 ghost use Rattle.history.specs.Histories.{CanStand, IsLegalHistory, IsMade, asks_for, call_made, read_of};
 ghost use Rattle.history.specs.Checking.{answer_in, answer_to, next_line, IsHistoryRefused};
@@ -26,7 +24,7 @@ use trace_reader::{Op, Trace, TraceLine};
 pub(crate) struct Case<'a> {
     pub(crate) config: &'a Config,
     pub(crate) start: &'a [Entry],
-    pub(crate) lines: &'a [TraceLine],
+    pub(crate) lines: &'a SpaceLines<'a>,
     pub(crate) items: &'a [Item],
 }
 
@@ -64,26 +62,6 @@ pub fn check_after(
     ensures refused { (bad : BadEntry) → result ≡ Err (CheckError.Bad bad)
         → IsHistoryRefused config.now start.now lines.now history.now bad }
 {
-    check_lines(alloc, config, start, lines.items(), history)
-}
-
-/// The same, by these lines.
-fn check_lines(
-    alloc: Global,
-    config: &Config,
-    start: &[Entry],
-    lines: &[TraceLine],
-    history: &History,
-) -> Result<(), CheckError>
-    requires valid { IsValidConfig config.now }
-    requires begun { length start.now ≤ 2 ^ 31 }
-    requires few { length lines.now ≤ MOST_LINES }
-    requires threads { All (λ line. line.thread < MOST_THREADS) lines.now }
-    requires numbered { AreNumbered lines.now }
-    ensures legal { OnOk result (IsLegalHistory config.now start.now lines.now history.now) }
-    ensures refused { (bad : BadEntry) → result ≡ Err (CheckError.Bad bad)
-        → IsHistoryRefused config.now start.now lines.now history.now bad }
-{
     let case = Case {
         config,
         start,
@@ -102,9 +80,6 @@ impl<'a> Walk<'a> {
     fn new(alloc: Global, case: &Case<'a>) -> Result<Walk<'a>, NoMemory>
         requires valid { IsValidConfig case.now.config.now }
         requires begun { length case.now.start.now ≤ 2 ^ 31 }
-        requires few { length case.now.lines.now ≤ MOST_LINES }
-        requires threads { All (λ line. line.thread < MOST_THREADS) case.now.lines.now }
-        requires numbered { AreNumbered case.now.lines.now }
         ensures { IfOk result (IsHistoryWalked case.now 0) }
     {
         Ok(Walk {

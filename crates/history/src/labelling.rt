@@ -6,14 +6,14 @@ ghost use Rattle.history.specs.Labels.{labelled, label_of};
 ghost use Rattle.history.specs.Parents.{parent_lines};
 ghost use Rattle.trace_reader.specs.Values.{IsTraceValue};
 
-use crate::callers::{Callers, MOST_THREADS};
+use crate::callers::Callers;
 use crate::gathering::gather_one;
 use crate::items::{History, Item};
 use crate::ordering::{are_in_order, put_in_order};
 use crate::space_lines::SpaceLines;
 use mm_types::{Entry, NoMemory, Seen};
 use std::alloc::Global;
-use trace_reader::{Trace, TraceLine};
+use trace_reader::Trace;
 
 /// The history of a journal and one log, where each item has the caller of the parent's line that stands with it, in time linear in
 /// the lines, but for reads between two calls that are not in the order of callers. Fails only where memory runs out.
@@ -39,19 +39,6 @@ pub fn label_space(
 ) -> Result<History, NoMemory>
     ensures { IfOk result (λ history. history ≡ label_of lines.now journal.now log.now) }
 {
-    label_lines(alloc, lines.items(), journal, log)
-}
-
-/// The same, by these lines.
-fn label_lines(
-    alloc: Global,
-    lines: &[TraceLine],
-    journal: &[Entry],
-    log: &[Seen],
-) -> Result<History, NoMemory>
-    requires { All (λ line. line.thread < MOST_THREADS) lines.now }
-    ensures { IfOk result (λ history. history ≡ label_of lines.now journal.now log.now) }
-{
     let mut items = gather_one(alloc, journal, log)?;
     give_callers(&mut items, lines);
     let items = in_order(alloc, items)?;
@@ -59,11 +46,12 @@ fn label_lines(
 }
 
 /// Gives each item the caller of the line that stands with it, and drops items that have no line.
-fn give_callers(items: &mut Vec<Item>, lines: &[TraceLine])
-    requires { All (λ line. line.thread < MOST_THREADS) lines.now }
-    ensures { items.new.items ≡ labelled lines.now lines.now items.old.items }
+fn give_callers(items: &mut Vec<Item>, lines: &SpaceLines<'_>)
+    ensures given { items.new.items ≡ labelled lines.now lines.now items.old.items }
+    ensures small { All (λ item. item.caller < 2 ^ 32) items.new.items }
 {
     let callers = Callers::of(lines);
+    let lines = lines.items();
     let count = lines.len().min(items.len());
     for place in 0..count {
         items[place].caller = callers.caller(lines[place].thread);

@@ -7,11 +7,13 @@ ghost use Rattle.history.specs.declared.items.Item.{Item};
 ghost use Rattle.history.specs.Histories.{StandsAmong};
 ghost use Rattle.history.specs.Checking.{next_line};
 ghost use Rattle.history.specs.Coming.{IsProgress, IsToCome, NoneIsToCome, HasNoneLeft};
+ghost use Rattle.history.specs.SpaceLines.{AreSpaceLines};
 ghost use Rattle.history.specs.Internal.Walks.{IsNext, IsTold, IsLowestLeft};
 
 use crate::callers::Callers;
 use crate::items::Item;
 use crate::places::places_of;
+use crate::space_lines::SpaceLines;
 use mm_types::NoMemory;
 use std::alloc::Global;
 use std::marker::Model;
@@ -47,17 +49,16 @@ impl<'a> Model for Progress<'a> {
 
 impl<'a> Progress<'a> {
     /// Before the first item. Fails only where memory runs out.
-    pub fn new(alloc: Global, lines: &'a [TraceLine]) -> Result<Progress<'a>, NoMemory>
-        requires few { length lines.now ≤ MOST_LINES }
-        requires threads { All (λ line. line.thread < MOST_THREADS) lines.now }
-        requires numbered { AreNumbered lines.now }
-        ensures { IfOk result (IsProgress lines.now []) }
+    pub fn new(alloc: Global, lines: &'a SpaceLines<'_>) -> Result<Progress<'a>, NoMemory>
+        ensures first { IfOk result (IsProgress lines.now []) }
+        ensures kept { AreSpaceLines lines.now }
     {
+        let own = lines.items();
         let callers = Callers::of(lines);
         let places = places_of(alloc, lines, &callers)?;
         let answered = vec![in alloc; 0usize; places.len()]?;
         Ok(Progress {
-            lines,
+            lines: own,
             callers,
             places,
             answered,

@@ -8,12 +8,12 @@ ghost use Rattle.area_rules.specs.Journals.{version_of};
 ghost use Rattle.history.specs.Internal.Turns.{turn_place, AreLater};
 ghost use Rattle.history.specs.Turns.{turn_item, IsInTurn};
 
-use crate::callers::{Callers, MOST_THREADS};
+use crate::callers::Callers;
 use crate::gathering::{is_in_order, version_of};
 use crate::ordering::place_at;
+use crate::space_lines::SpaceLines;
 use mm_types::{Entry, Seen};
 use std::marker::Model;
-use trace_reader::TraceLine;
 
 /// One thing that a caller did.
 #[derive(Clone, Copy, Debug)]
@@ -102,8 +102,11 @@ fn next_read<'a>(version: u64, journal: &[Entry], log: &'a [Seen]) -> Option<(&'
 
 /// What one caller did by a journal and a log, in the order of a history, where that is the order of the lines that stand with it; else
 /// `None`: the versions of the log fall, or a read of a version stands behind one of it by a later thread.
-pub fn in_turn<'a>(lines: &[TraceLine], journal: &'a [Entry], log: &'a [Seen]) -> Option<Turns<'a>>
-    requires { All (λ line. line.thread < MOST_THREADS) lines.now }
+pub fn in_turn<'a>(
+    lines: &SpaceLines<'_>,
+    journal: &'a [Entry],
+    log: &'a [Seen],
+) -> Option<Turns<'a>>
     ensures all { IfSome result (λ turns. turns ≡ history_of journal.now (log.now ∷ [])) }
     ensures order { IfSome result (λ turns. labelled lines.now lines.now turns ≡ label_of lines.now journal.now log.now) }
     ensures none { IfNone result (IsInTurn lines.now journal.now log.now → ⊥) }
@@ -118,11 +121,11 @@ pub fn in_turn<'a>(lines: &[TraceLine], journal: &'a [Entry], log: &'a [Seen]) -
 }
 
 /// Whether these things, each by the caller of the line that stands with it, are in the order of a history.
-fn is_in_turn(lines: &[TraceLine], mut turns: Turns<'_>) -> bool
-    requires { All (λ line. line.thread < MOST_THREADS) lines.now }
+fn is_in_turn(lines: &SpaceLines<'_>, mut turns: Turns<'_>) -> bool
     ensures { IsTrue result ↔ (labelled lines.now lines.now turns.entry ≡ gather (labelled lines.now lines.now turns.entry)) }
 {
     let callers = Callers::of(lines);
+    let lines = lines.items();
     let mut last = 0;
     for line in lines {
         let Some(turn) = turns.next() else {

@@ -7,7 +7,7 @@ use Rattle.std.proofs.lemmas.Bool.Decides.{Decides-eqb}
 use Rattle.std.proofs.lemmas.List.{drop_all, length-drop, length-take-le}
 use Rattle.std.proofs.lemmas.List.Sums.{passes_at_first}
 use Rattle.std.proofs.lemmas.Slice.Eq.{bytes_eq-Decides, slice_eq-Decides}
-use Rattle.text_lexer.specs.Lines.{RawLine, raw_line, is_newline, lines_from, raw_lines}
+use Rattle.text_lexer.specs.Lines.{RawLine, raw_line, is_newline, lines_from}
 use Rattle.text_lexer.proofs.RawPieces.{lines_from-newline, lines_from-none, lines_from-nil}
 use Rattle.output.specs.Input.{is_mark, mark_offset, parted, input_of}
 use Rattle.output.proofs.Marks.{mark, begins_mark, mark_from, behind, behind_behind, mark_past_line, mark_elsewhere, mark_here}

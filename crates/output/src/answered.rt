@@ -1,13 +1,11 @@
 //! The lines that the items of a history answer.
-ghost use Rattle.std.specs.Prelude.{◌≡◌, ◌≤◌, ◌<◌, ◌++◌, [], ◌∷◌, All, IfOk, List, Some, length};
-ghost use Rattle.trace_reader.specs.declared.limits.TheConstants.{MOST_LINES};
+ghost use Rattle.std.specs.Prelude.{◌≡◌, ◌++◌, [], ◌∷◌, IfOk, List, Some};
 ghost use Rattle.trace_reader.specs.declared.trace.TraceLine.{TraceLine};
-ghost use Rattle.history.specs.declared.callers.TheConstants.{MOST_THREADS};
 ghost use Rattle.history.specs.declared.items.Item.{Item};
 ghost use Rattle.history.specs.Histories.{line_answered};
 ghost use Rattle.output.specs.Answering.{AnswersNext, AreAnswered};
 
-use history::{Item, places_by_caller};
+use history::{Item, SpaceLines, places_by_caller};
 use mm_types::NoMemory;
 use std::alloc::Global;
 use trace_reader::TraceLine;
@@ -24,15 +22,13 @@ pub struct AnsweredLines<'a> {
 
 impl<'a> AnsweredLines<'a> {
     /// Before the first item. Fails only where memory runs out.
-    pub fn new(alloc: Global, lines: &'a [TraceLine]) -> Result<AnsweredLines<'a>, NoMemory>
-        requires few { length lines.now ≤ MOST_LINES }
-        requires threads { All (λ line. line.thread < MOST_THREADS) lines.now }
+    pub fn new(alloc: Global, lines: &'a SpaceLines<'_>) -> Result<AnsweredLines<'a>, NoMemory>
         ensures { IfOk result (AreAnswered lines.now []) }
     {
         let places = places_by_caller(alloc, lines)?;
         let answered = vec![in alloc; 0usize; places.len()]?;
         Ok(AnsweredLines {
-            lines,
+            lines: lines.items(),
             places,
             answered,
         })

@@ -63,7 +63,7 @@ impl<'a> Walk<'a> {
         ensures { IfOk result (IsTextWalked (trace_over config.now lines.now) text.now) }
     {
         Ok(Walk {
-            progress: Progress::new(alloc, lines.items())?,
+            progress: Progress::new(alloc, lines)?,
             space: PlainSpace::new(alloc, config)?,
             given: Given::of(text),
             line: Vec::new(alloc),

@@ -1,9 +1,7 @@
 //! The text of a history and of lists, which is given while it is printed.
 ghost use Rattle.std.specs.Prelude.{◌≡◌, ◌≤◌, ◌<◌, ◌^◌, ◌-◌, ◌++◌, [], All, codes, length, vec_capacity};
 ghost use Rattle.mm_types.specs.MapsText.{list_text};
-ghost use Rattle.trace_reader.specs.declared.limits.TheConstants.{MOST_LINES};
 ghost use Rattle.trace_reader.specs.Values.{child_of};
-ghost use Rattle.history.specs.declared.callers.TheConstants.{MOST_THREADS};
 ghost use Rattle.history.specs.declared.items.Content.TheVariants as contents;
 ghost use Rattle.output.specs.Output.{item_text, listed_text, maps_text, reply_text, result_text, told_by, verdict_text};
 ghost use Rattle.output.specs.declared.giving.TheConstants.{MOST_GIVEN};
@@ -13,7 +11,7 @@ use crate::answered::AnsweredLines;
 use crate::error::PrintError;
 use crate::giving::{MOST_GIVEN, end_line, give_full};
 use crate::{push_count, push_forked, push_reply, push_start, push_verdict};
-use history::{Content, Item};
+use history::{Content, Item, SpaceLines};
 use io_edge::Sink;
 use maps_print::push_line;
 use mm_types::{Files, Record, Reply, Verdict};
@@ -29,13 +27,11 @@ pub fn print_history<K: Sink>(
     alloc: Global,
     sink: &mut K,
     piece: &mut Vec<u8>,
-    lines: &[TraceLine],
+    lines: &SpaceLines<'_>,
     files: &Files,
     items: &[Item],
     areas: &[Record],
 ) -> Result<(), PrintError>
-    requires few { length lines.now ≤ MOST_LINES }
-    requires threads { All (λ line. line.thread < MOST_THREADS) lines.now }
     requires legal { AreLegal lines.now items.now }
     requires held { length piece.old.items < MOST_GIVEN }
     requires sink { (K.seen sink.old).faults < 2 ^ 64 - 1 }
@@ -51,12 +47,10 @@ fn print_items<K: Sink>(
     alloc: Global,
     sink: &mut K,
     piece: &mut Vec<u8>,
-    lines: &[TraceLine],
+    lines: &SpaceLines<'_>,
     files: &Files,
     items: &[Item],
 ) -> Result<(), PrintError>
-    requires few { length lines.now ≤ MOST_LINES }
-    requires threads { All (λ line. line.thread < MOST_THREADS) lines.now }
     requires legal { AreLegal lines.now items.now }
     requires held { length piece.old.items < MOST_GIVEN }
     requires sink { (K.seen sink.old).faults < 2 ^ 64 - 1 }

@@ -53,12 +53,11 @@ fn driven_run<R: Threads + Wait + Sync + Abort>(
     requires { IsTraceValue trace.now }
 {
     let own = SpaceLines::parent_of(alloc, trace)?;
-    let lines = own.items();
-    if Callers::of(lines).count() != 2 {
+    if Callers::of(&own).count() != 2 {
         panic!(rt; "not two threads");
     }
     // For each line of a thread, and each time that one names it.
-    let most = 2 * lines.len() as u64;
+    let most = 2 * own.items().len() as u64;
     let ready = Ready::make(alloc, trace.config.copy(alloc)?, &[most, most])?;
     Ok(driven::<Brand, R>(rt, alloc, ready, trace, most))
 }

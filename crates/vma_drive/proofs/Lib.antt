@@ -1,3 +1,4 @@
+pub mod Crossing
 pub mod Operations
 pub mod Growing
 pub mod NamedLines

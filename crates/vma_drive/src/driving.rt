@@ -52,7 +52,7 @@ pub fn drive<N: SpaceName + Send + Sync, R: Threads + Wait + Sync, G: Gate>(
     ensures told { OnOk result (AreToldBy (parent_lines trace.now.lines) passes.new) }
 {
     let own = SpaceLines::parent_of(alloc, trace)?;
-    drive_lines(rt, alloc, space, passes, own.items(), gate)
+    drive_lines(rt, alloc, space, passes, &own, gate)
 }
 
 /// The same of the lines of one space.
@@ -61,10 +61,9 @@ pub(crate) fn drive_lines<N: SpaceName + Send + Sync, R: Threads + Wait + Sync, 
     alloc: Global,
     space: &Space<N>,
     passes: &mut [Pass],
-    lines: &[TraceLine],
+    lines: &SpaceLines<'_>,
     gate: &G,
 ) -> Result<(), NoMemory>
-    requires lines { AreSpaceLines lines.now }
     requires passes { ArePasses N.name passes.old }
     requires unused { AreFreshPasses passes.old }
     requires enough { AreEnough lines.now passes.old }
@@ -75,7 +74,9 @@ pub(crate) fn drive_lines<N: SpaceName + Send + Sync, R: Threads + Wait + Sync, 
         → done_by pass ≡ asked (lines_of lines.now caller)) }
     ensures grown { (caller : ℕ) (pass : PassView) → slice_get passes.new caller ≡ Some pass → HaveGrown pass }
     ensures told { OnOk result (AreToldBy lines.now passes.new) }
+    ensures kept { AreSpaceLines lines.now }
 {
+    let own = lines.items();
     let callers = Callers::of(lines);
     let places = places_by_caller(alloc, lines)?;
     let places = places.as_slice();
@@ -86,7 +87,7 @@ pub(crate) fn drive_lines<N: SpaceName + Send + Sync, R: Threads + Wait + Sync, 
     let mut owed = lefts(alloc, passes)?;
     let owed = owed.as_mut_slice();
     run_rounds(
-        rt, alloc, space, passes, lines, places, rounds, tellings, owed, gate,
+        rt, alloc, space, passes, own, places, rounds, tellings, owed, gate,
     )
 }
 

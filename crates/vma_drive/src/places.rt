@@ -1,21 +1,14 @@
 //! How many operations each caller of a trace has.
-ghost use Rattle.std.specs.Prelude.{◌≡◌, ◌≤◌, length, All, IfOk};
-ghost use Rattle.trace_reader.specs.declared.limits.TheConstants.{MOST_LINES};
-ghost use Rattle.trace_reader.specs.Values.{IsLineValue, AreNumbered, AreNamesRight};
+ghost use Rattle.std.specs.Prelude.{IfOk};
 ghost use Rattle.vma_drive.specs.Sharing.{AreShares};
 
 use crate::naming::tells_by_caller;
-use history::Callers;
+use history::{Callers, SpaceLines};
 use mm_types::NoMemory;
 use std::alloc::Global;
-use trace_reader::TraceLine;
 
 /// How many operations each caller has: one for each of its lines, and one for each time that a line names one of them.
-pub(crate) fn shares(alloc: Global, lines: &[TraceLine]) -> Result<Vec<u64>, NoMemory>
-    requires few { length lines.now ≤ MOST_LINES }
-    requires values { All IsLineValue lines.now }
-    requires numbered { AreNumbered lines.now }
-    requires named { AreNamesRight lines.now }
+pub(crate) fn shares(alloc: Global, lines: &SpaceLines<'_>) -> Result<Vec<u64>, NoMemory>
     ensures { IfOk result (λ operations. AreShares lines.now operations.items) }
 {
     let callers = Callers::of(lines);

@@ -1,14 +1,14 @@
 //! Rounds: when each line of a trace is run, where lines name earlier ones.
 ghost use Rattle.std.specs.Prelude.{ℕ, ◌≡◌, ◌≤◌, ◌<◌, ◌+◌, length, slice_index, All, IfOk, IfSome};
 ghost use Rattle.trace_reader.specs.declared.limits.TheConstants.{MOST_LINES};
-ghost use Rattle.trace_reader.specs.Values.{AreNumbered, AreNamesRight};
+ghost use Rattle.trace_reader.specs.Values.{AreNumbered};
 ghost use Rattle.history.specs.declared.callers.TheConstants.{MOST_THREADS};
 ghost use Rattle.history.specs.Threads.{counts_below};
 ghost use Rattle.vma_drive.specs.Naming.{HasNumber};
 ghost use Rattle.vma_drive.specs.Internal.Rounds.{AreRounds, AreTellings};
 
 use crate::naming::place_of;
-use history::{Callers, MOST_THREADS};
+use history::{Callers, MOST_THREADS, SpaceLines};
 use mm_types::NoMemory;
 use std::alloc::Global;
 use trace_reader::TraceLine;
@@ -26,15 +26,12 @@ pub(crate) struct Telling {
 pub(crate) fn rounds_of(
     alloc: Global,
     callers: &Callers,
-    lines: &[TraceLine],
+    lines: &SpaceLines<'_>,
 ) -> Result<Vec<u32>, NoMemory>
-    requires callers { callers.now ≡ counts_below MOST_THREADS lines.now }
-    requires few { length lines.now ≤ MOST_LINES }
-    requires threads { All (λ line. line.thread < MOST_THREADS) lines.now }
-    requires numbered { AreNumbered lines.now }
-    requires named { AreNamesRight lines.now }
+    requires { callers.now ≡ counts_below MOST_THREADS lines.now }
     ensures { IfOk result (λ rounds. AreRounds lines.now rounds.items) }
 {
+    let lines = lines.items();
     let mut rounds = Vec::new(alloc);
     let mut reached = [0; MOST_THREADS];
     for line in lines {
@@ -50,16 +47,14 @@ pub(crate) fn rounds_of(
 pub(crate) fn tellings_of(
     alloc: Global,
     callers: &Callers,
-    lines: &[TraceLine],
+    lines: &SpaceLines<'_>,
     rounds: &[u32],
 ) -> Result<Vec<Telling>, NoMemory>
     requires callers { callers.now ≡ counts_below MOST_THREADS lines.now }
-    requires threads { All (λ line. line.thread < MOST_THREADS) lines.now }
-    requires numbered { AreNumbered lines.now }
-    requires named { AreNamesRight lines.now }
     requires rounds { length rounds.now ≡ length lines.now }
     ensures { IfOk result (λ tellings. AreTellings lines.now rounds.now tellings.items) }
 {
+    let lines = lines.items();
     let mut tellings = Vec::new(alloc);
     for (place, line) in lines.iter().enumerate() {
         if let Some(number) = line.after {

@@ -7,7 +7,6 @@ ghost use Rattle.history.specs.CallerPlaces.{callers_of};
 ghost use Rattle.history.specs.Labels.{IsSerialRun};
 ghost use Rattle.history.specs.Parents.{parent_lines};
 ghost use Rattle.history.specs.Runs.{IsRun};
-ghost use Rattle.history.specs.SpaceLines.{AreSpaceLines};
 ghost use Rattle.vma_drive.specs.Sharing.{AreShares};
 
 use crate::alone::run_alone;
@@ -23,7 +22,7 @@ use std::alloc::Global;
 use std::marker::Brand;
 use std::sync::Wait;
 use std::thread::Threads;
-use trace_reader::{Trace, TraceLine};
+use trace_reader::Trace;
 
 /// Runs the lines of the parent of a trace one after the other over a new space, with one pass, and closes it. Refused where memory runs
 /// out.
@@ -56,9 +55,9 @@ pub fn run_threads<R: Threads + Wait + Sync, G: Gate>(
     let own = SpaceLines::parent_of(alloc, trace)?;
     let lines = own.items();
     let config = config_for(alloc, &trace.config, lines.len() as u64)?;
-    let operations = shares(alloc, lines)?;
+    let operations = shares(alloc, &own)?;
     let ready = Ready::make(alloc, config, &operations)?;
-    run_passes::<Brand, R, G>(rt, alloc, ready, lines, gate)
+    run_passes::<Brand, R, G>(rt, alloc, ready, &own, gate)
 }
 
 /// Opens a space of the callers of these lines, runs the lines of each with its pass, and closes it.
@@ -66,13 +65,12 @@ fn run_passes<N: SpaceName + Send + Sync, R: Threads + Wait + Sync, G: Gate>(
     rt: &R,
     alloc: Global,
     ready: Ready,
-    lines: &[TraceLine],
+    lines: &SpaceLines<'_>,
     gate: &G,
 ) -> Result<Closed, NoMemory>
     requires name { ready ≡ N.name }
     requires before { ready.before ≡ [] }
     requires shares { AreShares lines.now ready.operations }
-    requires lines { AreSpaceLines lines.now }
     ensures run { IfOk result (λ run. IsRun ready.config [] lines.now (callers_of lines.now) run.journal run.logs) }
     ensures list { IfOk result (λ run. run.list ≡ list_after ready.config run.journal) }
 {

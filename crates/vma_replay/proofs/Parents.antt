@@ -10,7 +10,6 @@ use Rattle.std.proofs.lemmas.Option.{slice_get-get_or}
 use Rattle.mm_types.specs.declared.call.Entry.{Entry}
 use Rattle.mm_types.specs.declared.call.Seen.{Seen}
 use Rattle.mm_types.specs.declared.config.Config.{Config}
-use Rattle.trace_reader.specs.declared.limits.TheConstants.{MOST_LINES}
 use Rattle.trace_reader.specs.declared.trace.Op.{Op}
 use Rattle.trace_reader.specs.declared.trace.Trace.{Trace}
 use Rattle.trace_reader.specs.declared.trace.TraceLine.{TraceLine}
@@ -32,7 +31,7 @@ use Rattle.history.proofs.Lists.{at_place}
 use Rattle.history.proofs.Numbers.{own_place, passed}
 use Rattle.history.proofs.Placed.{journal_append}
 use Rattle.history.proofs.Steps.{entry_item, Stands, entries_stand}
-use Rattle.history.proofs.ThreadCounts.{items_within, threads_of_trace}
+use Rattle.history.proofs.ThreadCounts.{items_within}
 use Rattle.split_merge.proofs.Counting.{contains_later}
 use Rattle.mm_types.proofs.Sorting.{All-sort_by}
 use Rattle.mm_space.specs.Closing.{ClosedView}
@@ -254,13 +253,6 @@ legal_items mode trace run lines history shown value is of_trace made same = (
   subst (λ (l : List TraceLine). IsLegalHistory trace.config [] l shown) (sym of_trace)
       (subst (λ (h : List Item). IsLegalHistory trace.config [] trace.lines h) (sym (same ∙ made)) (legal_of_run mode trace run value is)),
 )
-
-pub few_lines : (trace : Trace) (lines : List TraceLine) → IsTraceValue trace → lines ≡ trace.lines → length lines ≤ MOST_LINES
-few_lines trace lines value is = subst (λ (l : List TraceLine). length l ≤ MOST_LINES) (sym is) value.few
-
-pub low_threads : (trace : Trace) (lines : List TraceLine) → IsTraceValue trace → lines ≡ trace.lines → All (λ line. line.thread < MOST_THREADS) lines
-low_threads trace lines value is =
-    subst (λ (l : List TraceLine). All (λ line. line.thread < MOST_THREADS) l) (sym is) (threads_of_trace trace.lines value.lines)
 
 -- the journal of a parent's run
 pub bears : (mode : Mode) (trace : Trace) (run : ClosedView) → IsTraceValue trace → IsRunOf mode (parent_trace trace) run

@@ -1,4 +1,5 @@
-//! Words for which no space is opened. Nothing here has leave to start threads or to wait, so each of these answers comes.
+//! Words for which no space is opened. Nothing here has leave to start threads or to wait for one, so each of these answers comes once its reads
+//! and writes have.
 ghost use Rattle.std.specs.Prelude.{◌≡◌, ◌<◌, ◌^◌, ◌+◌, ◌-◌, ◌⊎◌, ℕ, [], IfErr, IfOk, IfSome, IsSomeAnd, Some, true, false};
 ghost use Rattle.std.specs.Io.KnownBytes.{Keeps, IsAtEnd};
 ghost use Rattle.text_lexer.specs.declared.error.Cause.{Cause};
@@ -18,7 +19,7 @@ use std::alloc::Global;
 
 /// Answers the words after the program's name for which no space is opened: those of `steps`, `query`, `retrace` and `check`, and those that
 /// are not accepted. `replay` answers them so. For the others it answers the run that they ask for, and leaves source and sink as they are.
-/// It has no leave to wait, so it returns whatever the words and the input are.
+/// It has no leave to wait for another thread, so it returns whatever the words are, once each read and write has.
 pub fn answer_without_space<S: Source, K: Sink>(
     alloc: Global,
     words: &[String],

@@ -40,7 +40,7 @@ fn forks_from(alloc: Global, lines: &SpaceLines<'_>, items: &[Item]) -> Result<V
     ensures { IfOk result (λ forks. forks.items ≡ forks_from lines.now items.now) }
 {
     let mut forks = Vec::new(alloc);
-    let mut answered = AnsweredLines::new(alloc, lines.items())?;
+    let mut answered = AnsweredLines::new(alloc, lines)?;
     for item in items {
         push_fork(&mut forks, answered.next(item), item)?;
     }

@@ -15,7 +15,7 @@ use crate::replayed::Runs;
 use crate::running::closed_run;
 use crate::status::Status;
 use crate::words::Mode;
-use history::{Turns, in_turn};
+use history::{SpaceLines, Turns, in_turn};
 use io_edge::{Gate, Sink};
 use mm_space::Closed;
 use output::{PrintError, ROOM, give_all, print_history, print_maps, print_turns};
@@ -83,24 +83,29 @@ fn print_alone<K: Sink>(
     ensures { IsPrinting (K.seen sink.old) (K.seen sink.new) piece.old.items piece.new.items
         (listed_text trace.now.config.files trace.now.lines (history_of_run mode trace.now run.now) run.now.list) result }
 {
-    let (lines, files) = (trace.lines.items(), &trace.config.files);
-    let areas = run.list().items();
-    if let Some(turns) = turns_of(mode, trace, run) {
-        print_turns(sink, piece, lines, files, turns)?;
+    let own = SpaceLines::parent_of(alloc, trace)?;
+    let (files, areas) = (&trace.config.files, run.list().items());
+    if let Some(turns) = turns_of(mode, trace, &own, run) {
+        print_turns(sink, piece, own.items(), files, turns)?;
         return print_maps(sink, piece, files, areas);
     }
     let history = run_history(alloc, mode, trace, run)?;
-    print_history(alloc, sink, piece, lines, files, history.items(), areas)
+    print_history(alloc, sink, piece, &own, files, history.items(), areas)
 }
 
 /// What was done in a closed run, where it can be told line by line: one caller ran all lines, and their order is that of the history.
-fn turns_of<'a>(mode: Mode, trace: &Trace, run: &'a Closed) -> Option<Turns<'a>>
-    requires trace { IsTraceValue trace.now }
+fn turns_of<'a>(
+    mode: Mode,
+    trace: &Trace,
+    lines: &SpaceLines<'_>,
+    run: &'a Closed,
+) -> Option<Turns<'a>>
+    requires lines { lines.now ≡ trace.now.lines }
     requires run { IsRunOf mode trace.now run.now }
     ensures { IfSome result (λ turns. labelled trace.now.lines trace.now.lines turns ≡ history_of_run mode trace.now run.now) }
 {
     match mode {
-        Mode::Serial => in_turn(trace.lines.items(), run.journal(), run.logs()[0].as_slice()),
+        Mode::Serial => in_turn(lines, run.journal(), run.logs()[0].as_slice()),
         Mode::Threads => None,
     }
 }

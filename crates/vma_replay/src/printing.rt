@@ -38,7 +38,7 @@ pub(crate) fn give_family<K: Sink>(
     ensures { IsGivingText (K.seen sink.old) (K.seen sink.new)
         (text_of_family trace.now family.now.history family.now.forks.items family.now.runs.items) result }
 {
-    let (lines, files) = (own.items(), &trace.config.files);
+    let files = &trace.config.files;
     let runs = family.runs.as_slice();
     let areas = runs[0].list().items();
     let mut piece = Vec::with_capacity(alloc, ROOM)?;
@@ -46,7 +46,7 @@ pub(crate) fn give_family<K: Sink>(
         alloc,
         sink,
         &mut piece,
-        lines,
+        own,
         files,
         family.history.items(),
         areas,
@@ -121,11 +121,10 @@ fn print_child<K: Sink>(
         (text_of_child trace.now fork.now run.now) result }
 {
     let own = SpaceLines::child_of(alloc, trace, fork.child)?;
-    let lines = own.items();
     let history = child_history(alloc, fork.version, run.journal(), run.logs())?;
     let (files, areas) = (&trace.config.files, run.list().items());
     print_child_line(sink, piece, fork)?;
-    print_history(alloc, sink, piece, lines, files, history.items(), areas)
+    print_history(alloc, sink, piece, &own, files, history.items(), areas)
 }
 
 /// Prints the line before those of a child.

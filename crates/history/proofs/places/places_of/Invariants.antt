@@ -4,4 +4,4 @@ use Rattle.history.proofs.Placing.{Placed}
 use Rattle.history.proofs.places.places_of.Given as goal
 
 abbrev pub invariant-loop-place : goal.invariant-loop-place
-invariant-loop-place l = Placed l.fn.lines l.place (callers_of l.fn.lines) l.places.items
+invariant-loop-place l = Placed l.lines l.place (callers_of l.lines) l.places.items

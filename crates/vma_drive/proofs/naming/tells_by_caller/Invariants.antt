@@ -3,4 +3,4 @@ use Rattle.vma_drive.proofs.NamedCounts.{CountedTo}
 use Rattle.vma_drive.proofs.naming.tells_by_caller.Given as goal
 
 abbrev pub invariant-loop-line : goal.invariant-loop-line
-invariant-loop-line l = CountedTo l.fn.lines l.tells l.line-index
+invariant-loop-line l = CountedTo l.lines l.tells l.line-index

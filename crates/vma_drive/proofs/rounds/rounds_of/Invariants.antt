@@ -3,4 +3,4 @@ use Rattle.vma_drive.proofs.Rounding.{RoundedTo}
 use Rattle.vma_drive.proofs.rounds.rounds_of.Given as goal
 
 abbrev pub invariant-loop-line : goal.invariant-loop-line
-invariant-loop-line l = RoundedTo l.fn.lines l.rounds.items l.reached l.line-index
+invariant-loop-line l = RoundedTo l.lines l.rounds.items l.reached l.line-index

@@ -3,4 +3,4 @@ use Rattle.vma_drive.proofs.AllTold.{ToldOf}
 use Rattle.vma_drive.proofs.rounds.tellings_of.Given as goal
 
 abbrev pub invariant-loop-place : goal.invariant-loop-place
-invariant-loop-place l = ToldOf l.fn.lines l.fn.rounds l.tellings.items l.place
+invariant-loop-place l = ToldOf l.lines l.fn.rounds l.tellings.items l.place

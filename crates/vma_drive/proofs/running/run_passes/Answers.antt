@@ -25,7 +25,7 @@ returns-clause-run g c =
     (subst (λ (l : List PassView). Closes g.N.SpaceName.name l c.close.result)
     (back c.drive_lines.new.passes _ _ (c.drive_lines.auto.passes ∙ c.as_mut_slice.ensures.len)) c.close.ensures)
     (subst
-    (λ (l : List ℕ). AreShares c.args.lines.now l) (ap (λ (r : SpaceId). r.operations) c.requires.name) c.requires.shares) c.requires.lines.values c.in_ok-drive_lines.ensures.told
+    (λ (l : List ℕ). AreShares c.args.lines.now l) (ap (λ (r : SpaceId). r.operations) c.requires.name) c.requires.shares) c.in_ok-drive_lines.ensures.kept.values c.in_ok-drive_lines.ensures.told
     c.in_ok-drive_lines.ensures.grown c.in_ok-drive_lines.ensures.done)
 
 pub drive_lines-requires-clause-passes : goal.drive_lines-requires-clause-passes

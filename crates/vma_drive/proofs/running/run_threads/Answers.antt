@@ -1,5 +1,5 @@
 -- The proof of `run_threads`: the callers are few, and so are their operations, and no calls of theirs pass the limit of areas.
-use Rattle.std.proofs.Common.{◌≡◌, ◌≤◌, ◌∙◌, length, filter, arith, sym, subst, List, []}
+use Rattle.std.proofs.Common.{◌≤◌, ◌∙◌, ap, length, filter, arith, sym, subst, List, []}
 use Rattle.std.specs.Prelude.{IfOk, is_some}
 use Rattle.mm_types.specs.declared.config.Config.{Config}
 use Rattle.mm_types.specs.Config.{IsValidConfig}
@@ -20,26 +20,26 @@ make-requires-clause-config g c = subst (λ (s : Config). IsValidConfig s) (sym 
 
 pub make-requires-clause-callers : goal.make-requires-clause-callers
 make-requires-clause-callers g c =
-    let few = few_shown c.items-lines.result.now _ c.deref.result.now c.in_ok-operations.ensures c.deref.ensures.value in
+    let few = few_shown c.in_ok-own.own _ c.deref.result.now c.in_ok-operations.ensures c.deref.ensures.value in
     (few.some, few.callers)
 
 pub make-requires-clause-few : goal.make-requires-clause-few
 make-requires-clause-few g c =
-    let few = few_shown c.items-lines.result.now _ c.deref.result.now c.in_ok-operations.ensures c.deref.ensures.value in
+    let few = few_shown c.in_ok-own.own _ c.deref.result.now c.in_ok-operations.ensures c.deref.ensures.value in
     let value : IsTraceValue (record c.args.trace.now { lines = parent_lines c.args.trace.now.lines }) =
     parent_is_trace c.args.trace.now c.requires.trace in
-    let own : c.items-lines.result.now ≡ parent_lines c.args.trace.now.lines = c.items-lines.ensures.lines ∙ c.in_ok-own.ensures.own in
-    let named : length (filter (λ line. is_some line.after) c.items-lines.result.now) ≤ MOST_NAMED =
-    subst (λ (l : List TraceLine). length (filter (λ line. is_some line.after) l) ≤ MOST_NAMED) (sym own) value.few_named in
-    omega (arith, few.few, c.items-lines.ensures.kept.few, named)
+    let named : length (filter (λ line. is_some line.after) c.in_ok-own.own) ≤ MOST_NAMED =
+    subst (λ (l : List TraceLine). length (filter (λ line. is_some line.after) l) ≤ MOST_NAMED) (sym c.in_ok-own.ensures.own) value.few_named in
+    omega (arith, few.few, ap (λ (l : List TraceLine). length l) c.items-lines.ensures.lines, c.items-lines.ensures.kept.few, named)
 
 pub returns : goal.returns
 returns g c =
-    let own : c.items-lines.result.now ≡ parent_lines c.args.trace.now.lines = c.items-lines.ensures.lines ∙ c.in_ok-own.ensures.own in
     let both = run_result (length c.items-lines.result.now) c.args.trace.now.config c.requires.trace.config
-    (omega (arith, c.items-lines.ensures.kept.few)) c.in_ok-ready.ready.config c.items-lines.result.now (callers_of c.items-lines.result.now)
-    c.run_passes.result (c.in_ok-ready.ensures.config ∙ c.in_ok-config.ensures) (omega arith) c.run_passes.ensures.run c.run_passes.ensures.list in
+    (omega (arith, c.items-lines.ensures.kept.few)) c.in_ok-ready.ready.config c.in_ok-own.own (callers_of c.in_ok-own.own)
+    c.run_passes.result (c.in_ok-ready.ensures.config ∙ c.in_ok-config.ensures)
+    (omega (arith, ap (λ (l : List TraceLine). length l) c.items-lines.ensures.lines)) c.run_passes.ensures.run c.run_passes.ensures.list in
     record {
-      run = subst (λ (l : List TraceLine). IfOk c.run_passes.result (λ run. IsRun c.args.trace.now.config [] l (callers_of l) run.journal run.logs)) own both.0;
+      run = subst (λ (l : List TraceLine). IfOk c.run_passes.result (λ run. IsRun c.args.trace.now.config [] l (callers_of l) run.journal run.logs))
+          c.in_ok-own.ensures.own both.0;
       list = both.1;
     }

@@ -2,6 +2,10 @@
 use Rattle.std.proofs.Common.{rules}
 use Rattle.vma_drive.proofs.OwnLines.{places_in}
 use Rattle.vma_drive.proofs.Workers.{passes_worked, each_ran, may_work, worked}
+use mir.Syntax.{named}
+use Rattle.std.proofs.Crossing as heap
+use Rattle.mm_space.proofs.Crossing.{space_row_sync}
+use Rattle.vma_drive.proofs.Crossing.{round_sync}
 use Rattle.vma_drive.proofs.working.run_workers.Goals as goal
 
 pub for_each_mut-requires-clause-accepts : goal.for_each_mut-requires-clause-accepts
@@ -31,3 +35,29 @@ threads_for-threads-requires-clause-round g c = record {
   within = places_in c.args.round.lines.now _ c.args.round.places.now c.args.round.rounds.now c.requires.places c.requires.rounds;
   left = λ caller pass found. (c.requires.has caller pass found).0.left;
 }
+
+pub for_each_mut-requires-sync-F : goal.for_each_mut-requires-sync-F
+for_each_mut-requires-sync-F g c κs within =
+    let space = space_row_sync _ g.N.SpaceName c.type_bounds.send-N c.type_bounds.sync-N in
+    let round = round_sync (record { mir = named 10; lft = κs.1.1.1.1.1.1.1.1.1.1.0 }) in
+    record {
+      shared = λ x b o κ. (
+        (
+          ((λ q. tt), c.type_bounds.sync-R.shared x.0.now x.0.ref_ptr.0 x.0.ref_ptr.1 _),
+          (
+            ((λ q. tt), heap.sync.shared x.1.now x.1.ref_ptr.0 x.1.ref_ptr.1 κs.1.1.1.1.1.1.1.0),
+            (
+              ((λ q. tt), space.shared x.2.now x.2.ref_ptr.0 x.2.ref_ptr.1 _),
+              (
+                ((λ q. tt), round.shared x.3.now x.3.ref_ptr.0 x.3.ref_ptr.1 κs.1.1.1.1.1.1.1.1.1.0),
+                (
+                  ((λ q. tt), c.type_bounds.sync-G.shared x.4.now x.4.ref_ptr.0 x.4.ref_ptr.1 _),
+                  tt,
+                ),
+              ),
+            ),
+          ),
+        ),
+        λ q. tt,
+      );
+    }

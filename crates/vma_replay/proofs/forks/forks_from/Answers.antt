@@ -1,14 +1,10 @@
 -- The proof of `forks_from`: before the first item, at the next, and after the last.
-use Rattle.std.proofs.Common.{List, [], subst}
-use Rattle.trace_reader.specs.declared.trace.TraceLine.{TraceLine}
-use Rattle.output.specs.Answering.{AreAnswered}
 use Rattle.vma_replay.specs.Forks.{fork_of}
 use Rattle.output.proofs.Telling.{told_all, told_answers, told_next, told_none}
 use Rattle.vma_replay.proofs.forks.forks_from.Goals as goal
 
 pub loop-item-init : goal.loop-item-init
-loop-item-init c = told_none fork_of _ _ _ _
-    (subst (λ (l : List TraceLine). AreAnswered l [] c.in_ok-answered.answered) c.items.ensures.lines c.in_ok-answered.ensures) c.new-forks.ensures.items
+loop-item-init c = told_none fork_of _ _ _ _ c.in_ok-answered.ensures c.new-forks.ensures.items
 
 pub next-requires : goal.next-requires
 next-requires c = told_answers fork_of c.args.lines.now c.args.items.now c.loop-item.item-index c.loop-item.answered c.loop-item.forks.items

@@ -14,8 +14,8 @@ print_history-requires-clause-held g c = omega (arith, ap length c.in_ok-piece.e
 pub print_history-requires-clause-legal : goal.print_history-requires-clause-legal
 print_history-requires-clause-legal g c =
     let family = c.requires.family.1 in
-    legal_items c.requires.family.0 (parent_trace c.args.trace.now) family.parent c.items-lines.result.now c.args.family.now.history c.items.result.now
-    (parent_is_trace c.args.trace.now c.requires.trace) family.parent_is (c.items-lines.ensures.lines ∙ c.requires.own) family.history_is c.items.ensures
+    legal_items c.requires.family.0 (parent_trace c.args.trace.now) family.parent c.args.own.now c.args.family.now.history c.items.result.now
+    (parent_is_trace c.args.trace.now c.requires.trace) family.parent_is c.requires.own family.history_is c.items.ensures
 
 pub print_children-requires-clause-forks : goal.print_children-requires-clause-forks
 print_children-requires-clause-forks g c =
@@ -26,8 +26,8 @@ pub returns-in_err-print_history : goal.returns-in_err-print_history
 returns-in_err-print_history g c = at_error _ _ _ _ c.from_residual-in_err-print_history.ensures.1
     (cut_first _ _ _ _ _ _ _ c.in_ok-piece.ensures.items
     (family_whole c.requires.family.0 c.args.trace.now c.args.family.now.history c.items.result.now c.args.family.now.forks.items
-    c.args.family.now.forks.items c.args.family.now.runs.items _ c.items-lines.result.now c.items-areas.result.now c.index-runs-0.result
-    c.requires.family.1 (c.items-lines.ensures.lines ∙ c.requires.own) c.items.ensures
+    c.args.family.now.forks.items c.args.family.now.runs.items _ c.args.own.now c.items-areas.result.now c.index-runs-0.result
+    c.requires.family.1 c.requires.own c.items.ensures
     (c.index-runs-0.is ∙ ap (λ runs. get_or runs 0 c.index-runs-0.result) c.as_slice-runs.ensures.value)
     (c.items-areas.ensures ∙ c.list.ensures) refl
     (refl))
@@ -37,8 +37,8 @@ pub returns-in_err-print_children : goal.returns-in_err-print_children
 returns-in_err-print_children g c = at_error _ _ _ _ c.from_residual-in_err-print_children.ensures.1
     (cut_second _ _ _ _ _ _ _ _ _ c.in_ok-piece.ensures.items
     (family_whole c.requires.family.0 c.args.trace.now c.args.family.now.history c.items.result.now c.args.family.now.forks.items
-    c.as_slice.result.now c.args.family.now.runs.items _ c.items-lines.result.now c.items-areas.result.now c.index-runs-0.result
-    c.requires.family.1 (c.items-lines.ensures.lines ∙ c.requires.own) c.items.ensures
+    c.as_slice.result.now c.args.family.now.runs.items _ c.args.own.now c.items-areas.result.now c.index-runs-0.result
+    c.requires.family.1 c.requires.own c.items.ensures
     (c.index-runs-0.is ∙ ap (λ runs. get_or runs 0 c.index-runs-0.result) c.as_slice-runs.ensures.value)
     (c.items-areas.ensures ∙ c.list.ensures) c.as_slice.ensures.value
     (ap (λ runs. take (length runs - 1) (drop 1 runs)) c.as_slice-runs.ensures.value))
@@ -48,8 +48,8 @@ pub returns : goal.returns
 returns g c = giving_last _ _ _ _ _ _ _
     (prints_both _ _ _ _ _ _ _ _ _ c.in_ok-piece.ensures.items
     (family_whole c.requires.family.0 c.args.trace.now c.args.family.now.history c.items.result.now c.args.family.now.forks.items
-    c.as_slice.result.now c.args.family.now.runs.items _ c.items-lines.result.now c.items-areas.result.now c.index-runs-0.result
-    c.requires.family.1 (c.items-lines.ensures.lines ∙ c.requires.own) c.items.ensures
+    c.as_slice.result.now c.args.family.now.runs.items _ c.args.own.now c.items-areas.result.now c.index-runs-0.result
+    c.requires.family.1 c.requires.own c.items.ensures
     (c.index-runs-0.is ∙ ap (λ runs. get_or runs 0 c.index-runs-0.result) c.as_slice-runs.ensures.value)
     (c.items-areas.ensures ∙ c.list.ensures) c.as_slice.ensures.value
     (ap (λ runs. take (length runs - 1) (drop 1 runs)) c.as_slice-runs.ensures.value))

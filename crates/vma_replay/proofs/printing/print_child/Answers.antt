@@ -41,7 +41,7 @@ history_same version items journal own logs all is a b =
 
 pub returns : goal.returns
 returns g c =
-    let lines = c.items-lines.ensures.lines ∙ c.in_ok-own.ensures in
+    let lines = c.in_ok-own.ensures in
     let history = history_same _ _ _ _ _ _ (c.items.ensures ∙ c.in_ok-history.ensures) c.journal.ensures c.logs.ensures in
     let list = c.items-areas.ensures ∙ c.list.ensures in
     printing_then _ _ _ _ _ _ _ _ _ c.in_ok-print_child_line.ensures
