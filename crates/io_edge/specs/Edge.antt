@@ -1,5 +1,6 @@
 -- What a clause sees of a source or a sink, and when either may answer an error, by its count of faults before and after the call.
 use Rattle.std.specs.Prelude.{◌≡◌, ℕ, ◌+◌, ◌-◌, ◌^◌, ◌≤◌, min, Bool, true, false, List, Option, IfSome, Result, OnOk, OnErr, IsErrOf}
+use Rattle.std.specs.Io.KnownBytes.{Consumes}
 use Rattle.io_edge.specs.declared.error.GiveError.{GiveError}
 use Rattle.io_edge.specs.declared.error.GiveError.TheVariants.{Failed, NoMemory}
 
@@ -16,6 +17,10 @@ pub record SinkView : Type 0 where
   pub written : Option (List ℕ)
   pub faults : ℕ
   pub just_failed : Option Bool
+
+-- some bytes were taken, and this holds of them
+abbrev pub OfTaken : SourceView → SourceView → (List ℕ → Type 0) → Type 0
+OfTaken old new claim = (taken : List ℕ) × Consumes old.left new.left taken × claim taken
 
 -- a count with one more, up to the most that 64 bits hold
 abbrev pub counted : ℕ → ℕ

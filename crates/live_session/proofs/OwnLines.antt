@@ -12,7 +12,7 @@ use Rattle.text_lexer.specs.declared.error.Cause.TheVariants.{After, Arity, Chil
 use Rattle.text_lexer.specs.declared.limits.TheConstants.{LINE_LIMIT}
 use Rattle.text_lexer.specs.Causes.{◌>>=◌, unless}
 use Rattle.text_lexer.specs.Lines.{RawLine, input_limit, is_longer_than, raw_line, text_of, text_within}
-use Rattle.text_lexer.specs.Words.{words_of, is_comment, begins_with_digit}
+use Rattle.text_lexer.specs.Words.{words_of, is_header, is_comment, begins_with_digit}
 use Rattle.trace_reader.specs.declared.trace.Op.{Op}
 use Rattle.trace_reader.specs.declared.trace.Op.TheVariants as ops
 use Rattle.trace_reader.specs.declared.trace.TraceLine.{TraceLine}
@@ -241,7 +241,7 @@ no_own_line s after number text (first ∷ words) is none = (
 
 -- nor is the header
 header_words : (s after : SoFar) (words : List (List ℕ)) → with_header s words ≡ Ok after → is_new words ≡ false
-unfolding with_header read_version is_new
+unfolding with_header read_version is_header is_new
 header_words s after [] is = refl
 header_words s after (word ∷ []) is = absurd cc
 header_words s after (word ∷ next ∷ words) is = refl

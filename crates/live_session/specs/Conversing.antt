@@ -1,7 +1,7 @@
 -- What a session reads, gives and ends with.
 use Rattle.std.specs.Prelude.{ℕ, ◌≡◌, ◌+◌, ◌-◌, ◌*◌, ◌^◌, ◌<◌, ◌≤◌, List, length, take}
-use Rattle.std.specs.Io.KnownBytes.{Appends, Consumes, IsAtEnd}
-use Rattle.io_edge.specs.Edge.{SourceView, SinkView, FailedLast}
+use Rattle.std.specs.Io.KnownBytes.{Appends, IsAtEnd}
+use Rattle.io_edge.specs.Edge.{SourceView, SinkView, FailedLast, OfTaken}
 use Rattle.live_session.specs.declared.status.Status.{Status}
 use Rattle.live_session.specs.declared.status.Status.TheVariants as statuses
 use Rattle.live_session.specs.Sessions.{answers_of, session_text}
@@ -28,5 +28,4 @@ EndsAs statuses.TooMany taken source source' sink sink' = (source'.faults ≡ so
 
 -- some bytes were taken, and the session ended so with them
 abbrev pub IsConversation : Status → SourceView → SourceView → SinkView → SinkView → Type 0
-IsConversation status source source' sink sink' = (taken : List ℕ) × Consumes source.left source'.left taken
-    × EndsAs status taken source source' sink sink'
+IsConversation status source source' sink sink' = OfTaken source source' (λ taken. EndsAs status taken source source' sink sink')

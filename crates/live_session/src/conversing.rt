@@ -140,7 +140,14 @@ fn answer_lines<S: Source, K: Sink>(
     ensures turns { IfOk result (λ stop. Turns held.old held.new) }
 {
     'lines: while let Some(len) = held.find_line(source, sink, piece)? {
-        let stop = answer_line(alloc, piece, says, space, &held.bytes()[..len])?;
+        let stop = answer_line(
+            alloc,
+            &mut Vec::new(alloc),
+            piece,
+            says,
+            space,
+            &held.bytes()[..len],
+        )?;
         held.pass(len);
         if let Some(stop) = stop {
             return Ok(stop);

@@ -24,6 +24,10 @@
 // the session is. Beyond a trace's 64 `maps` a read of the list is answered all the same, since it adds nothing
 // (`operations_are_answered_by_items`).
 //
+// What takes memory (`LineMayLack`): the words of a line, for a list that `answer_line` is handed; an operation or a file, which the trace keeps; the
+// first operation, since it opens the space; a list with an area, which is copied; a read; and an answer for which the piece has no room. So a bad
+// line, a query and the list of no area take none in a piece with room.
+//
 // One address space, one caller: threads and `after=` are tested as in a trace, and the lines run in their order. A fork is refused
 // (`Cause::Child`).
 //

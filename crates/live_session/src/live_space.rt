@@ -1,15 +1,15 @@
 //! An address space of a session, with its configuration and how many calls were made.
-ghost use Rattle.std.specs.Prelude.{◌≡◌, ◌≤◌, ◌<◌, ◌+◌, ◌-◌, ◌/◌, ◌^◌, ◌++◌, false, None, Some, IfOk, IsOk, IsSomeAnd, OnErr, OnOk, vec_capacity, vec_len};
+ghost use Rattle.std.specs.Prelude.{◌≡◌, ◌≤◌, ◌<◌, ◌+◌, ◌-◌, ◌/◌, ◌^◌, ◌++◌, false, length, None, Some, IfOk, IsOk, IsSomeAnd, OnErr, OnOk, vec_capacity, vec_len};
 ghost use Rattle.mm_types.specs.Config.{IsValidConfig};
 ghost use Rattle.area_rules.specs.Steps.{opening};
 ghost use Rattle.history.specs.Histories.{answer_of, call_made, read_of, space_after, space_by, answer_by, version_by};
 ghost use Rattle.live_session.specs.Sessions.{after_operation, areas_text, found_text, operation_text};
-ghost use Rattle.live_session.specs.Internal.Lacking.{LacksRoom, reads_list};
+ghost use Rattle.live_session.specs.Internal.Lacking.{LacksForList, LacksRoom, found_line, reads_list};
 
 use history::{Content, Item, made_call};
 use maps_print::push_trimmed;
 use mm_types::{Config, NoMemory, PAGE_SIZE, Page};
-use output::{push_item, push_maps};
+use output::{push_count, push_item, push_maps};
 use plain_space::{PlainSpace, Room};
 use std::alloc::Global;
 use std::marker::Model;
@@ -163,17 +163,24 @@ impl<'a> LiveSpace<'a> {
         }
     }
 
-    /// Appends the list of areas. Fails only where memory runs out.
+    /// Appends the list of areas. Fails only where memory runs out: that is taken for a copy of the list, if it has an area, and where the piece
+    /// has no room.
     pub(crate) fn push_areas(&self, alloc: Global, piece: &mut Vec<u8>) -> Result<(), NoMemory>
-        ensures { OnOk result (piece.new.items ≡ piece.old.items ++ areas_text self.now) }
+        ensures text { OnOk result (piece.new.items ≡ piece.old.items ++ areas_text self.now) }
+        ensures room { OnErr result (LacksForList self.now (areas_text self.now) (vec_capacity piece.old) (vec_len piece.old)) }
     {
+        if self.space.count() == 0 {
+            return push_count(piece, 0);
+        }
         let list = self.space.copy_list(alloc)?;
         push_maps(piece, &self.config.files, list.items())
     }
 
-    /// Appends the line of the first area that ends above an address, without the spaces at its end, or `none`. Fails only where memory runs out.
+    /// Appends the line of the first area that ends above an address, without the spaces at its end, or `none`. Fails only where memory runs out,
+    /// which is taken where the piece has no room for that line with these spaces.
     pub(crate) fn push_found(&self, piece: &mut Vec<u8>, address: u64) -> Result<(), NoMemory>
-        ensures { OnOk result (piece.new.items ≡ piece.old.items ++ found_text self.now address) }
+        ensures text { OnOk result (piece.new.items ≡ piece.old.items ++ found_text self.now address) }
+        ensures room { OnErr result (vec_capacity piece.old < vec_len piece.old + length (found_line self.now address)) }
     {
         match self.space.area_from(Page(address / PAGE_SIZE)) {
             Some(area) => push_trimmed(piece, &area, &self.config.files),
