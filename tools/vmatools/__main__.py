@@ -1,5 +1,4 @@
 """The command `vma` where the package is installed: `python3 -m vmatools`."""
-from __future__ import annotations
 
 import os
 import sys

@@ -1,5 +1,4 @@
 """The command `vma`: its subcommands, their help, and how each of them ends."""
-from __future__ import annotations
 
 import argparse
 import difflib

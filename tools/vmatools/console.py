@@ -1,5 +1,4 @@
 """What a command says on the terminal: what it finds, in colour where that helps, its failures in one line, and how far it is."""
-from __future__ import annotations
 
 import argparse
 import errno
@@ -10,9 +9,9 @@ import shutil
 import sys
 import textwrap
 import time
-from collections.abc import Iterator
+from collections.abc import Callable, Iterator
 from contextlib import closing, contextmanager
-from typing import Any
+from typing import Any, NoReturn
 
 TOOL = "vma"
 MOST_BYTES = 1 << 28  # of a file that is read as a whole
@@ -67,6 +66,19 @@ def say(text: object) -> None:
         print(f"{TOOL}: {text}", file=sys.stderr, flush=True)
     except (OSError, ValueError):
         pass  # nobody can be told
+
+
+def ended(tool: str, main: Callable[[], int]) -> NoReturn:
+    """Runs a program that is none of vma's commands, and ends it: by its status, or by its failure, which it says."""
+    global TOOL
+    TOOL = tool
+    try:
+        sys.exit(main())
+    except Failure as failure:
+        say(failure)
+        sys.exit(failure.status)
+    except KeyboardInterrupt:
+        sys.exit(INTERRUPTED)
 
 
 # Standard input and output

@@ -2,7 +2,6 @@
 
 It is written from docs/MODEL.md alone, and has nothing of the program's code.
 """
-from __future__ import annotations
 
 import bisect
 from collections.abc import Callable
@@ -59,7 +58,8 @@ def index_of(area: Area, page: int) -> int:
 
 
 def piece(area: Area, lo: int, hi: int) -> Area:
-    return area._replace(lo=lo, hi=hi, offset=index_of(area, lo))
+    _, _, prot, most, shared, grows, sealed, heap, number, _ = area
+    return Area(lo, hi, prot, most, shared, grows, sealed, heap, number, index_of(area, lo))
 
 
 def joins(first: Area, second: Area) -> bool:

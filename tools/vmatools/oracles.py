@@ -1,5 +1,4 @@
 """What is right: the profile, which is proved, or Linux of a version, which is tested against kernels."""
-from __future__ import annotations
 
 import argparse
 import re
@@ -15,7 +14,8 @@ from .profile.serial import ModelSpace, serial_output
 from .traces import Trace
 
 PROFILE_NAME, RUNNING = "profile", "linux"
-BY_SYSTEM = "the profile beside a COMMAND, and Linux of its own version beside a system of --system"  # the default of two
+# the default of the commands that take a system
+BY_SYSTEM = "the profile beside a COMMAND, and beside a --system this machine's Linux (machine, uml: their own)"
 
 
 @dataclass(frozen=True)

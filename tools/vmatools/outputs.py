@@ -1,5 +1,4 @@
 """Outputs of `serial` compared: where two part first, and in which way."""
-from __future__ import annotations
 
 import re
 from collections.abc import Iterator

@@ -126,11 +126,11 @@ class Trace:
 
     def numbered(self) -> Trace:
         """The same trace with the numbers that its lines have in `text`. A line that names one not there names none."""
-        first = 2 + len(self.settings) + len(self.files)
-        numbers = {line.number: first + place for place, line in enumerate(self.lines)}
+        numbered = list(enumerate(self.lines, 2 + len(self.settings) + len(self.files)))
+        numbers: dict[int | None, int] = {line.number: number for number, line in numbered}
         return self.with_lines(
-            line._replace(number=first + place, after=None if line.after is None else numbers.get(line.after))
-            for place, line in enumerate(self.lines)
+            Line(number, line.thread, line.word, line.arguments, line.after and numbers.get(line.after))
+            for number, line in numbered
         )
 
     @cached_property
@@ -145,15 +145,17 @@ class Trace:
         files = [
             f"file {f.descriptor} {f.mode} {f.size} {f.major:x}:{f.minor:x} {f.inode} {f.name}" for f in self.files
         ]
-        return "".join(
-            line + "\n" for line in [f"vmatrace {self.version}", *settings, *files, *map(line_text, self.lines)]
-        )
+        return "\n".join([f"vmatrace {self.version}", *settings, *files, *map(line_text, self.lines), ""])
 
 
 def line_text(line: Line) -> str:
-    words = [TEXTS.get(kind, str)(value) for kind, value in zip(FORMS[line.word], line.arguments)]
-    after = [f"after={line.after}"] if line.after is not None else []
-    return " ".join([str(line.thread), line.word, *words, *after])
+    words = operation_text(line.word, *line.arguments)
+    return f"{line.thread} {words}" if line.after is None else f"{line.thread} {words} after={line.after}"
+
+
+@lru_cache(maxsize=1 << 15)
+def operation_text(word: str, *arguments: Any) -> str:
+    return " ".join([word, *(TEXTS.get(kind, str)(value) for kind, value in zip(FORMS[word], arguments))])
 
 
 def address_text(value: int) -> str:

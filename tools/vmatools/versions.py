@@ -1,5 +1,4 @@
 """Which version of the project this is, which program answers, and whether that is one that was proved."""
-from __future__ import annotations
 
 import hashlib
 from pathlib import Path

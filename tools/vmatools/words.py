@@ -1,5 +1,4 @@
 """Words of a command line: numbers and times, and the command that is to be called again."""
-from __future__ import annotations
 
 import argparse
 import re

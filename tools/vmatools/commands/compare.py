@@ -18,7 +18,6 @@ Exit status: 0 if nothing differs but what is known, 1 if something does (with -
 occur), 2 on wrong use, if the program or COMMAND can't be run, or if no trace came to its end within --for; 130 and 143 if a
 signal ended the run, after its report.
 """
-from __future__ import annotations
 
 import argparse
 import difflib
@@ -39,6 +38,7 @@ from ..comparing.reports import Report
 from ..oracles import PROFILE
 from ..running import program
 from ..systems import beside
+from ..systems.batch import capabilities_of
 from ..words import count, time_limit
 
 SUMMARY = "run random traces on the program and on a system of yours, and shrink what differs"
@@ -203,10 +203,10 @@ def add_arguments(parser: argparse.ArgumentParser) -> None:
     how.add_argument(
         "--live",
         metavar="PATH",
-        help="diltzekun-live, which without --threads answers the traces that do not fork, in the program's place (by default "
+        help="diltzekun-live, which without --threads answers in the program's place (by default "
         "the one found where the program is; with --program, none)",
     )
-    parser.set_defaults(kind_seconds=KIND_SECONDS, begin=time.monotonic())
+    parser.set_defaults(kind_seconds=KIND_SECONDS, begin=time.monotonic(), is_asked=False)
     beside.add_arguments(parser)
     program.add_arguments(parser)
     parser.add_argument(
@@ -297,17 +297,19 @@ def compare_sides(options: argparse.Namespace, settings: Settings, sides: compar
     with ExitStack() as stack:
         journal = opened_journal(options, settings, kept, stack)
         junit = stack.enter_context(closing(console.NewFile(options.junit))) if options.junit else None
+        if options.is_asked:
+            beside.take_capabilities(settings, sides, capabilities_of(options.command, options.seconds))
         report = Report(sys.stdout, sides.oracle) if options.json != "-" else None
         campaign = Campaign(settings, sides, findings, journal, report, kept)
         campaign.begin = options.begin
         with campaign.stoppable():
             campaign.run()
         status = status_of(findings, options.strict, campaign.stopped)
-        if campaign.is_too_short:
-            console.say(f"no trace came to its end in {settings.for_seconds:g} seconds: give it more by --for")
-            status = console.WRONG_USE
-        elif not status and findings.left_out and not findings.traces:
+        if not status and findings.left_out and not findings.traces:
             console.say("the system ran none of the traces")
+            status = console.WRONG_USE
+        elif campaign.is_too_short:
+            console.say(f"no trace came to its end in {settings.for_seconds:g} seconds: give it more by --for")
             status = console.WRONG_USE
         if journal:
             journal.write(findings.end_event(status, campaign.stopped))
@@ -367,4 +369,5 @@ def run(options: argparse.Namespace) -> int:
         raise console.Failure("COMMAND is missing: give the system under test after --")
     take_program(options)
     program.check_command(options.command)
+    options.is_asked = not options.batch
     return compare(options)

@@ -12,9 +12,9 @@ system can't run it.
     tools/vma conform --system qemu-x86_64
     tools/vma conform --live
 
-Exit status: 0 if all cases pass, 1 if one doesn't, 2 on wrong use, or if the suite or COMMAND can't be read or run.
+Exit status: 0 if all cases pass, or are left out, 1 if one doesn't, 2 on wrong use, if the suite or COMMAND can't be read or
+run, or if all cases are left out.
 """
-from __future__ import annotations
 
 import argparse
 import contextlib
@@ -36,7 +36,7 @@ from ..outputs import parts_of
 from ..running import children, program
 from ..running.live import LiveAdapter
 from ..running.program import TOP, Ran, run as run_command
-from ..systems.batch import Adapter, Adapters
+from ..systems.batch import Adapter, Adapters, capabilities_of
 from ..systems.capabilities import PROBE
 from ..systems.known import KNOWN, MACHINE_SECONDS, system_of
 from ..systems.linux_of import oracle_of
@@ -102,23 +102,28 @@ def add_arguments(parser: argparse.ArgumentParser) -> None:
 @contextlib.contextmanager
 def runs(options: argparse.Namespace) -> Iterator[Callable[[Case], Ran]]:
     """Runs a case: in a process of its own, or with --batch and --live in one that answers many."""
-    if not options.batch:
-        yield lambda case: run_command(options.command, case.trace.encode(), options.seconds)
-        return
-    adapters = Adapters(options.command, Adapter if options.live is None else LiveAdapter)
-    has = adapters.capabilities(max(options.seconds, SECONDS)) if options.is_unknown else None
+    adapters = Adapters(options.command, Adapter if options.live is None else LiveAdapter) if options.batch else None
+    has = None
+    if options.is_unknown and adapters:
+        has = adapters.capabilities(max(options.seconds, SECONDS))
+    elif options.is_unknown:
+        has = capabilities_of(options.command, options.seconds)
 
     def ran(case: Case) -> Ran:
-        lacked = has.lacked(read_trace(case.trace.encode())) if has else None
+        text = case.trace.encode()
+        lacked = has.lacked(read_trace(text)) if has else None
         if lacked:
             return Ran("", conformance.CANNOT_RUN, f"the adapter has no {lacked}")
-        answer = adapters.run(case.trace.encode(), options.seconds)
+        if adapters is None:
+            return run_command(options.command, text, options.seconds)
+        answer = adapters.run(text, options.seconds)
         return Ran(answer.output, answer.fault, answer.message)
 
     try:
         yield ran
     finally:
-        adapters.close()
+        if adapters:
+            adapters.close()
 
 
 def searched_place(case: Case) -> int | None:
@@ -235,7 +240,7 @@ def open_forms(options: argparse.Namespace, stack: contextlib.ExitStack) -> dict
 
 
 def oracle_for(options: argparse.Namespace) -> oracles.Oracle:
-    """What is right: what was asked for, else Linux of a system's own version, else the profile."""
+    """What is right: what was asked for, else Linux beside a system, else the profile."""
     if options.oracle or not options.system or options.list:
         return options.oracle or oracles.PROFILE
     return oracle_of(system_of(options.system))
@@ -271,4 +276,6 @@ def run(options: argparse.Namespace) -> int:
         report(results, given)
     if is_interrupted:
         raise console.Failure(f"interrupted: {len(results)} of {len(cases)} cases", console.INTERRUPTED)
+    if all(result.verdict is Verdict.LEFT_OUT for result in results):
+        raise console.Failure("the system ran none of the cases")
     return 0 if all(result.verdict in (Verdict.PASSED, Verdict.LEFT_OUT) for result in results) else 1

@@ -11,7 +11,6 @@ drawn. TRACE and OUTPUT are files; one of them may be -, standard input.
 Exit status: 0 if OUTPUT is legal, as for `vma judge`, 1 if it isn't (the page is written all the same), 2 on wrong use, or
 if a file can't be read.
 """
-from __future__ import annotations
 
 import argparse
 import os
@@ -22,6 +21,7 @@ from ..drawing.page import page
 from ..drawing.picture import picture
 from ..drawing.runs import Run, read_numbered, replayed
 from ..linux.areas import NotModelled
+from ..running import program
 from ..texts import explanations
 from ..traces import BadLine, File
 from ..words import count, number
@@ -58,6 +58,8 @@ def run(options: argparse.Namespace) -> int:
         text = page(chosen, files, title_of(options))
     sys.stdout.write(text)
     sys.stdout.flush()
+    if not options.oracle.kernel:
+        program.say_unbuilt()
     wrong = [difference for run in runs for difference in run.differences]
     for difference in wrong[:MOST_TOLD]:
         console.say(difference)

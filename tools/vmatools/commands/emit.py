@@ -5,7 +5,6 @@ the right answer is beside each, as NAME.out; that of Linux begins with a commen
 
 Example: tools/vma emit --runs 1000 --profile few,mremap seeds/
 """
-from __future__ import annotations
 
 import argparse
 from collections.abc import Iterator
@@ -15,18 +14,10 @@ from .. import console, oracles
 from ..comparing.campaign import Settings, sources
 from ..profile import loads
 from ..traces import read_trace
-from ..words import count
 from .compare import add_traces
+from .modes import generated_count
 
 SUMMARY = "write random traces into a folder, for other fuzzers"
-MOST_COUNT = 400_000  # operations of a generated trace
-
-
-def generated_count(text: str) -> int:
-    value = count(text)
-    if value > MOST_COUNT:
-        raise argparse.ArgumentTypeError(f"{text} is more than {MOST_COUNT:,}")
-    return value
 
 
 def add_arguments(parser: argparse.ArgumentParser) -> None:

@@ -10,7 +10,6 @@ docs/KERNEL.md, and of which its model says nothing.
 Exit status: 0 if TRACE is a trace, or a maps text that `retrace` takes, 1 if a line is bad, 2 on wrong use, or if TRACE
 can't be read.
 """
-from __future__ import annotations
 
 import argparse
 

@@ -8,13 +8,13 @@ Prints `legal`, or `not legal: line N: why` for the first line of OUTPUT that is
 
 Exit status: 0 if OUTPUT is legal, 1 if it isn't, 2 on wrong use, if a file can't be read, and if TRACE is no trace.
 """
-from __future__ import annotations
 
 import argparse
 
 from .. import console, oracles
 from ..comparing import judging
 from ..linux.areas import NotModelled
+from ..running import program
 from ..texts import explanations
 
 SUMMARY = "say whether the output of a system with threads is legal"
@@ -27,6 +27,8 @@ def add_arguments(parser: argparse.ArgumentParser) -> None:
 
 
 def run(options: argparse.Namespace) -> int:
+    if not options.oracle.kernel:
+        program.say_unbuilt()
     trace, output = console.open_inputs(options.trace, options.output)
     read = explanations.read(trace, options.trace)
     with console.reading(options.output):

@@ -35,7 +35,6 @@ Exit statuses, each but 0 with a line on standard error:
      sandbox that forbids it
   6  the system didn't start the trace in time
 """
-from __future__ import annotations
 
 import argparse
 import contextlib

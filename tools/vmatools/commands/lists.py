@@ -8,7 +8,6 @@ if both lists have them.
 
 Exit status: 0 if nothing else differs, 1 if something does, 2 on wrong use, or if a file can't be read.
 """
-from __future__ import annotations
 
 import argparse
 

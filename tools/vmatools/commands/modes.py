@@ -1,5 +1,4 @@
 """The modes of the program as subcommands: each takes files, and says in words what the program's status means."""
-from __future__ import annotations
 
 import argparse
 import os
@@ -23,9 +22,8 @@ from ..words import count, number
 
 BAD_LINE = re.compile(r"trace line (\d+) cause (\d+) (\w+)\n")
 PIECE = 1 << 20
-ABOUT = """
-FILE is a file, or - for standard input, which is also read without a FILE. The program answers, or where it isn't built the
-tools' model, which is not proved: a line on standard error says so.
+READS = "FILE is a file, or - for standard input, which is also read without a FILE. "
+ANSWERS = """The program answers, or where it isn't built the tools' model, which is not proved: a line on standard error says so.
 """
 ENDS = """
 Exit status: 0 if the output is written, 2 on wrong use, if FILE can't be read, or if a line of it is bad.
@@ -43,10 +41,11 @@ class Mode:
     add_words: Callable[[argparse.ArgumentParser], None]
     work: Callable[[Options], int]
     ends: str = ENDS
+    reads: str = READS
 
     @property
     def __doc__(self) -> str:  # type: ignore[override]
-        return "\n".join([self.says, ABOUT.strip(), self.ends])
+        return "\n".join([self.says, self.reads + ANSWERS + self.ends])
 
     def add_arguments(self, parser: argparse.ArgumentParser) -> None:
         self.add_words(parser)
@@ -337,6 +336,8 @@ MODES = {
         "Replays a generated trace as `serial` does, and prints how many calls and faults it had, but not the trace.",
         add_generate,
         run_generate,
+        "\nExit status: 0 if the output is written, 2 on wrong use.\n",
+        "",
     ),
     "query": Mode(
         "find the VMA at an address in a maps text, or the next one above",

@@ -5,10 +5,10 @@ adapter is one of examples/batch, a sorted list of VMAs, and passes all cases of
 
 Exit status: 0 if the files are written, 2 on wrong use, or if one of them is there already.
 """
-from __future__ import annotations
 
 import argparse
 import os
+import shlex
 from contextlib import ExitStack, closing
 from dataclasses import dataclass
 from pathlib import Path
@@ -68,5 +68,5 @@ def next_steps(folder: Path, language: Language, made: str) -> list[str]:
     vma = program.TOP / "tools/vma"
     vma_word = str(vma) if vma.exists() else "vma"
     build = [f"  {language.build}"] if language.build else []
-    vma_words = [f"  {vma_word} {name} --batch -- {made}" for name in ("conform", "compare")]
+    vma_words = [f"  {shlex.join([vma_word, name, '--batch', '--', made])}" for name in ("conform", "compare")]
     return [*lines, "", f"In {folder}:", *build, *vma_words]

@@ -14,7 +14,6 @@ answers alone.
 Exit status: 0 if all rows are as in the file, and both answer a trace of yours alike, 1 if one isn't, 2 on wrong use, or if
 a run fails.
 """
-from __future__ import annotations
 
 import argparse
 import contextlib

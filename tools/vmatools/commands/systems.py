@@ -1,5 +1,4 @@
 """Lists the systems that `vma kernel --system` and `vma compare --system` know, and says which are installed."""
-from __future__ import annotations
 
 import argparse
 

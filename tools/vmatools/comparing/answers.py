@@ -1,5 +1,4 @@
 """Who is right: of a difference the answers of the profile and of Linux by version, beside yours, and a sentence about them."""
-from __future__ import annotations
 
 from collections.abc import Callable, Iterator, Sequence
 from dataclasses import fields, replace

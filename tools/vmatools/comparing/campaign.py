@@ -1,6 +1,5 @@
 """A comparison of many traces: runs what was kept and then the others, groups what differs, and makes the trace of each kind
 small while it goes on."""
-from __future__ import annotations
 
 import itertools
 import os
@@ -26,7 +25,7 @@ from ..traces import BadLine, Trace, read_trace
 from ..words import repeated
 from . import conformance, generator, ranking
 from .answers import answers_of
-from .comparison import Examined, Found, Sides, Stopped, examine, without_all
+from .comparison import Examined, Found, Seen, Sides, Stopped, examine, without_all
 from .corpus import Corpus
 from .findings import MOST_SHOWN, Finding, Findings, Journal, Kind, Pairs
 from .fitting import fitted
@@ -37,8 +36,8 @@ from .windows import EmptyFit, Fit
 
 QUIET_SECONDS = 30  # a line says how far the run is, where nobody looks at a terminal
 KIND_SECONDS = 10.0  # for making the trace of a kind small
-WORKER_SECONDS = 0.05  # for the traces that a worker takes at once, which are so many at most
-MOST_AT_ONCE = 32
+WORKER_SECONDS = 0.2  # for the traces that a worker takes at once, which are so many at most
+MOST_AT_ONCE = 64
 
 
 @dataclass
@@ -261,13 +260,16 @@ class Campaign:
             self.examining[self.pool.submit(self.examined_all, taken)] = taken
 
     def examined_all(self, taken: list[Source]) -> list[Told]:
-        """What a worker makes of some traces in a short time, of the first in any."""
-        end = time.monotonic() + WORKER_SECONDS
-        told: list[Told] = []
-        for source in taken:
-            if told and time.monotonic() > end:
+        """What a worker makes of some traces: of all where both sides answer these at once, else of what a short time is enough
+        for; and how many the next one takes."""
+        begin, told = time.monotonic(), list[Told]()
+        traces = [self.ready(source) for source in taken]
+        for source, trace, seen in zip(taken, traces, self.sides.seen(traces)):
+            if told and seen.there is None and time.monotonic() > begin + WORKER_SECONDS:
                 break
-            told.append(self.examined(source))
+            told.append(self.examined(source, trace, seen))
+        in_time = WORKER_SECONDS / (time.monotonic() - begin + 1e-6)
+        self.at_once = max(min(int(len(told) * in_time), len(told) * 2, MOST_AT_ONCE), 1)
         return told
 
     def take(self) -> None:
@@ -276,8 +278,6 @@ class Campaign:
         self.take_told()
         for future in done:
             taken, told = self.examining.pop(future), future.result()
-            is_quick = len(told) == len(taken)
-            self.at_once = min(self.at_once * 2, MOST_AT_ONCE) if is_quick else max(len(told), 1)
             self.waiting += taken[len(told) :]
             for one in told:
                 self.keep(*one)
@@ -311,23 +311,25 @@ class Campaign:
                     self.keep_small(name, future.result() if not future.cancelled() else None)
         self.sides.is_stopped = False
 
-    def examined(self, source: Source) -> Told:
-        trace = without_all(source.draw(), self.sides.lacks)
-        fit = self.settings.fit
+    def ready(self, source: Source) -> Trace:
+        """The trace of a source, as the system can run it."""
+        trace, fit = without_all(source.draw(), self.sides.lacks), self.settings.fit
         if fit:
-            trace = trace if source.is_kept and fit.keeps(trace) else fit.fitted(trace)
-        elif self.settings.oracle.kernel:
-            trace = fitted(trace, self.settings.oracle.kernel.settings.min)
-        if not self.sides.has_session(trace):
+            return trace if source.is_kept and fit.keeps(trace) else fit.fitted(trace)
+        kernel = self.settings.oracle.kernel
+        return fitted(trace, kernel.settings.min) if kernel else trace
+
+    def examined(self, source: Source, trace: Trace, seen: Seen) -> Told:
+        if seen.right is None:
             self.sides.confirm(trace)
         rows = coverage.rows_of(trace) if self.settings.has_coverage else Counter[str]()
-        told = examine(self.sides, trace, self.settings.most, lambda one: self.told.put((source, one)))
+        told = examine(self.sides, trace, self.settings.most, lambda one: self.told.put((source, one)), seen)
         return Told(source, told, rows)
 
     def keep(self, source: Source, told: Examined, rows: Counter[str]) -> None:
         """Counts what a trace has shown."""
         self.keep_lacks(told.lacks)
-        if source.is_kept:
+        if source.is_kept and not told.left_out:
             self.findings.kept.pop(source.name)
         if (source.is_kept or source.name in self.cases) and not told.left_out:
             self.ran.add(source.name)

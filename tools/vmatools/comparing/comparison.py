@@ -1,6 +1,5 @@
 """One trace on both sides: all differences of it, each by the operation that brings it about, and which of them are set
 aside."""
-from __future__ import annotations
 
 import re
 from collections import Counter
@@ -8,6 +7,7 @@ from collections.abc import Callable, Iterable, Iterator, Sequence
 from dataclasses import dataclass, field
 from fnmatch import fnmatchcase
 from functools import lru_cache
+from itertools import chain, islice
 from typing import NamedTuple, Optional, Union
 
 from ..console import Failure
@@ -16,6 +16,7 @@ from ..model import Space
 from ..oracles import PROFILE, Oracle, without
 from ..outputs import Difference, Pair, answer_of, difference_of, end_of, is_list, kind_of, pairs_of, parts_of
 from ..profile.serial import serial_output
+from ..running import forks
 from ..running.program import Ran, run
 from ..systems.batch import Adapters, Answer
 from ..traces import FORMS, LIMITS, BadLine, Line, Trace, read_trace
@@ -55,6 +56,13 @@ class Rules:
         return None
 
 
+class Seen(NamedTuple):
+    """What the system answers to a trace and what is right, as far as that is known before the trace is looked at."""
+
+    there: Optional[Ran] = None
+    right: Optional[str] = None
+
+
 class Sides:
     """What is right, here, and the system under test, there."""
 
@@ -77,9 +85,9 @@ class Sides:
         return self.shown(serial_output(trace) if self.adapters else self.program_output(trace))
 
     def right(self, trace: Trace) -> str:
-        """The same, by a session with the program where that can give it: then no model has to."""
-        live = None if self.oracle.kernel else self.by_live(trace)
-        return self.here(trace) if live is None else self.shown(live)
+        """The same, by sessions with the program where they can give it: then no model has to."""
+        live = self.rights([trace])
+        return live[0] if live else self.here(trace)
 
     def confirm(self, trace: Trace) -> None:
         """Ends the comparison where the model, which stands in for the program, answers a trace otherwise."""
@@ -89,28 +97,17 @@ class Sides:
     def confirm_smallest(self, trace: Trace) -> None:
         """Ends the comparison where a smallest trace differs from what `serial` answers, whatever stands in for it."""
         self.confirm(trace)
-        live = None if self.oracle.kernel else self.by_live(trace)
-        if live is not None and live != self.by_serial(trace):
+        live = {} if self.oracle.kernel else self.by_sessions([trace])
+        if live and live[0] != self.by_serial(trace):
             raise CannotRun(
                 "diltzekun-live answers otherwise than the program on this trace; are both of one build?\n"
                 f"{trace.text()}"
             )
 
     def program_output(self, trace: Trace) -> str:
-        """What the program answers: by a session with diltzekun-live where there is one, as that saves a start."""
-        live = self.by_live(trace)
-        return self.by_serial(trace) if live is None else live
-
-    def has_session(self, trace: Trace) -> bool:
-        """Whether a session with the program can answer it."""
-        return self.live is not None and all(line.word != "fork" for line in trace.lines)
-
-    def by_live(self, trace: Trace) -> Optional[str]:
-        """What a session answers; nothing where none can, and where `serial` has to say why not."""
-        if self.live is None or not self.has_session(trace):
-            return None
-        answer = self.live.run(trace.data, PROGRAM_SECONDS)
-        return None if answer.fault else answer.output
+        """What the program answers: by sessions with diltzekun-live where there are some, as that saves a start."""
+        live = self.by_sessions([trace])
+        return live[0] if live else self.by_serial(trace)
 
     def by_serial(self, trace: Trace) -> str:
         ran = run([self.program, "serial"], trace.data, PROGRAM_SECONDS)
@@ -120,8 +117,40 @@ class Sides:
 
     def there(self, trace: Trace, seconds: Optional[float] = None) -> Ran:
         text, limit = trace.data, seconds or self.seconds
-        ran: Union[Answer, Ran] = self.adapters.run(text, limit) if self.adapters else run(self.command, text, limit)
+        return self.ran(self.adapters.run(text, limit) if self.adapters else run(self.command, text, limit))
+
+    def ran(self, ran: Union[Answer, Ran]) -> Ran:
         return Ran(self.shown(ran.output), ran.fault or (None if ran.output else WRITES_NOTHING), ran.message)
+
+    # Many traces
+
+    def seen(self, traces: Sequence[Trace]) -> list[Seen]:
+        """Of some traces what both sides answer to all at once, as far as they can: of all up to one that ends the system."""
+        self.go_on()
+        if self.adapters is None:
+            return [Seen()] * len(traces)
+        there = self.adapters.run_all([trace.data for trace in traces], self.seconds)
+        rights = self.rights(traces[: len(there)])
+        return [Seen(self.ran(answer), rights.get(place)) for place, answer in enumerate(there)]
+
+    def rights(self, traces: Sequence[Trace]) -> dict[int, str]:
+        """What is right for those of some traces that sessions answer, by their places."""
+        if self.oracle.kernel:
+            return {}
+        return {place: self.shown(output) for place, output in self.by_sessions(traces).items()}
+
+    def by_sessions(self, traces: Sequence[Trace]) -> dict[int, str]:
+        """What sessions with the program answer to some traces at once, by their places. Others are for `serial`."""
+        if self.live is None:
+            return {}
+        texts = [forks.texts_of(trace) for trace in traces]
+        answers = iter(self.live.run_all(list(chain.from_iterable(texts)), PROGRAM_SECONDS))
+        found = [list(islice(answers, len(some))) for some in texts]
+        return {
+            place: forks.joined(trace, [answer.output for answer in found[place]])
+            for place, trace in enumerate(traces)
+            if len(found[place]) == len(texts[place]) and not any(answer.fault for answer in found[place])
+        }
 
     def test_machine(self) -> None:
         """Ends the comparison where COMMAND cannot run any trace on this machine: `vma kernel` says so with status
@@ -137,13 +166,15 @@ class Sides:
 
     # The first difference
 
-    def raw_difference(self, trace: Trace, seconds: Optional[float] = None) -> Optional[Difference]:
+    def raw_difference(
+        self, trace: Trace, seconds: Optional[float] = None, seen: Seen = Seen()
+    ) -> Optional[Difference]:
         """The first difference of the outputs as they are."""
         self.go_on()
-        there = self.there(trace, seconds)
+        there = seen.there or self.there(trace, seconds)
         if there.fault:
             return Difference("run", "an output", there.fault, None, [], there.message.splitlines()[-3:])
-        here = self.right(trace)
+        here = self.right(trace) if seen.right is None else seen.right
         if here == there.output:
             return None
         ended = self.end_in(trace, there.output)
@@ -335,9 +366,9 @@ class Examined:
     lacks: set[str] = field(default_factory=set)  # operations that the system hasn't
 
 
-def named_difference(sides: Sides, trace: Trace) -> tuple[Optional[Difference], Optional[str]]:
+def named_difference(sides: Sides, trace: Trace, seen: Seen) -> tuple[Optional[Difference], Optional[str]]:
     """The first difference, by the operation that brings it about, and the rule that sets it aside, or None."""
-    found = sides.raw_difference(trace)
+    found = sides.raw_difference(trace, seen=seen)
     if found is None or found.there == CANNOT_RUN or is_missing(sides, found):
         return found, None
     found = sides.located(trace, found)
@@ -363,14 +394,19 @@ def why_left_out(found: Difference) -> str:
 
 
 def examine(
-    sides: Sides, trace: Trace, most: int = MOST_FINDINGS, tell: Optional[Callable[[Found], None]] = None
+    sides: Sides,
+    trace: Trace,
+    most: int = MOST_FINDINGS,
+    tell: Optional[Callable[[Found], None]] = None,
+    seen: Seen = Seen(),
 ) -> Examined:
     """All differences of a trace: the line of each is taken out, and the rest is run again. Each is told at once."""
     told = Examined()
     while True:
         trace, gaps = sides.oracle.modelled(trace)
         told.aside.update(f"not modelled: {gap.why}" for gap in gaps)
-        found, name = named_difference(sides, trace)
+        found, name = named_difference(sides, trace, Seen() if gaps else seen)
+        seen = Seen()
         if found is None:
             break
         if found.there == CANNOT_RUN:

@@ -1,5 +1,4 @@
 """The conformance suite: its cases, how a system's answer to one is judged, and the table of what came of all."""
-from __future__ import annotations
 
 import difflib
 import json

@@ -2,18 +2,18 @@
 
 A trace depends on the seed, the profiles and the traces with lower numbers, and on nothing that a system answers.
 """
-from __future__ import annotations
 
 import random
 from collections.abc import Callable, Collection, Iterable, Sequence
 
+from ..model import Space
 from ..traces import Trace
 from . import generator
-from .changes import Changer, Entry, entry_of
+from .changes import Changer, Entry, State
 from .pairs import Pair, Watched
 
-TURNS = 10  # of so many traces the first is drawn, and the others are kept ones changed, of which some are measured
-MEASURED = (3, 6)
+TURNS = 20  # of so many traces the first is drawn, and the others are kept ones changed, of which some are measured
+MEASURED = (3, 8, 13, 18)
 MOST_LINES = 60
 
 
@@ -32,7 +32,7 @@ class Corpus:
         self.seed, self.lines, self.profiles, self.is_fitted = seed, lines, profiles, is_fitted
         self.seeds, self.told = seeds, told
         self.random = random.Random(f"corpus {seed}")
-        self.changer = Changer(self.random, MOST_LINES)
+        self.changer = Changer(self.random, lines, MOST_LINES)
         self.known: set[Pair] = set()
         self.of_seeds: dict[str, Trace] = {}
         self.before = 0  # pairs that the seeds reach
@@ -53,7 +53,7 @@ class Corpus:
         if len(ran) < len(self.of_seeds):
             known: set[Pair] = set()
             for trace in ran:
-                last_fresh(trace, known)
+                entry_of(trace, known)
             before = len(known)
         return len(self.known) - self.before + before, before, self.late
 
@@ -72,7 +72,7 @@ class Corpus:
         if turn == 0 or not self.entries:
             name = self.profiles[number // TURNS % len(self.profiles)]
             return self.drawn(name, number), f"profile {name}"
-        trace = self.changer.changed(self.entry(), self.entry())
+        trace = self.changer.changed(self.entry(), self.entry)
         if turn in MEASURED:
             self.measure(trace, self.told)
         return trace.numbered(), "a change of others"
@@ -89,38 +89,32 @@ class Corpus:
         return self.entries[max(self.random.randrange(count), self.random.randrange(count))]
 
     def drawn(self, name: str, number: int) -> Trace:
-        """A trace of the generator, whose spaces tell what it reaches."""
-        spaces: list[Watched] = []
-
-        def space_of(trace: Trace) -> Watched:
-            spaces.append(Watched(trace, self.known))
-            return spaces[-1]
-
-        drawn = generator.Generator(name, f"{self.seed} {number}", self.lines, 0, self.is_fitted, space_of)
-        trace = drawn.draw()
-        self.keep(trace, spaces[-1].fresh[0], self.told)
+        """A trace of the generator."""
+        trace = generator.Generator(name, f"{self.seed} {number}", self.lines, 0, self.is_fitted).draw()
+        if len(trace.lines) <= MOST_LINES:  # a longer one isn't kept
+            self.measure(trace, self.told)
         return trace
 
     def measure(self, trace: Trace, told: Callable[[Trace], None] = lambda trace: None) -> None:
         """Keeps a trace that reaches a new pair."""
-        self.keep(trace, last_fresh(trace, self.known), told)
-
-    def keep(self, trace: Trace, last: int, told: Callable[[Trace], None]) -> None:
-        """Keeps a trace up to the last of its lines that reached something new, if one did."""
-        if 0 < last <= MOST_LINES:
-            kept = trace.with_lines(trace.lines[:last])
-            self.entries.append(entry_of(kept))
-            told(kept)
+        entry = entry_of(trace, self.known)
+        if 0 < len(entry.trace.lines) <= MOST_LINES:
+            self.entries.append(entry)
+            told(entry.trace)
 
 
-def last_fresh(trace: Trace, known: set[Pair]) -> int:
-    """Adds the pairs that a trace reaches to those that are known, and returns the last of its lines that reached one first."""
-    parent = Watched(trace, known)
-    children: dict[int, Watched] = {}
+def entry_of(trace: Trace, known: set[Pair]) -> Entry:
+    """A trace up to the last of its lines that reached a new pair, with its states. All pairs that it reaches are known then."""
+    parent, states = Watched(trace, known), list[State]()
+    behind, children = (parent.areas, parent.break_), dict[int, Watched]()
     for place, line in enumerate(trace.lines, 1):
         space = children.get(line.thread, parent)
+        states.append((space.areas, space.break_))
         if line.word == "fork":
             children[line.arguments[0]] = space.child()
         else:
             space.answer(line._replace(number=place))
-    return parent.fresh[0]
+        if parent.fresh[0] == place:
+            behind = (parent.areas, parent.break_)
+    last = parent.fresh[0]
+    return Entry(trace.with_lines(trace.lines[:last]), [*states[:last], behind], Space(trace))

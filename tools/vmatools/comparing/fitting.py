@@ -1,5 +1,4 @@
 """Traces that a kernel can run: with the settings that it has."""
-from __future__ import annotations
 
 from typing import Optional
 

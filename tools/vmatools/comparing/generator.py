@@ -3,10 +3,10 @@
 A generator keeps the model of each space, and draws from its list what the next line is about: so most calls succeed.
 One line in six is spoiled in one place, so that each error comes too.
 """
-from __future__ import annotations
 
+import itertools
 import random
-from collections.abc import Callable, Sequence
+from collections.abc import Sequence
 from dataclasses import dataclass, field
 from typing import Any, Optional, TypeVar
 
@@ -25,6 +25,7 @@ IDLE_FLAGS = [MAP[f"MAP_{name}"] for name in ("STACK", "NORESERVE", "POPULATE", 
 MAYMOVE, TO_FIXED, DONTUNMAP = MREMAP.values()
 SPOILED = 16  # of a hundred lines
 
+PROTECTIONS = [READ | WRITE] * 5 + [READ] * 4 + [0, WRITE, READ | EXEC, READ | WRITE | EXEC]
 MODES = [["rw"], ["r"], ["r", "rw", "w"]]  # of the first, the second and the third file
 LOW = 0x100
 EDGES = [DEFAULT_MIN - 2, FLOOR - 3, DEFAULT_TOP - 12, USER_PAGES[1] - 12]
@@ -140,32 +141,42 @@ MIXED = ["few", "files", "mremap", "faults", "edges", "limits", "growing", "brk"
 class Recipes:
     """Draws single lines for a trace, about what a space has mapped."""
 
-    def __init__(self, source: random.Random, profile: Profile, trace: Trace, base: int) -> None:
-        self.random, self.profile, self.trace, self.base = source, profile, trace, base
-        self.at_once, self.children = 0, LIMITS["forks"]
-        self.threads = [0]
-        self.spaces = {0: Space(trace)}
-        self.space: Space = self.spaces[0]
+    space: Space
+    spaces: dict[int, Space]
+
+    def __init__(self, source: random.Random, profile: Profile) -> None:
+        self.bits, self.profile, self.base = source.getrandbits, profile, 0
+        self.at_once, self.children, self.threads = 0, LIMITS["forks"], [0]
+        self.files: Sequence[File] = ()
+        self.reads = 0  # of the list, that were drawn
 
     # Drawing
 
+    def below(self, end: int) -> int:
+        """A number from 0 up to but not including an end: what `randrange` draws, in half the time."""
+        width = end.bit_length()
+        number = self.bits(width)
+        while number >= end:
+            number = self.bits(width)
+        return number
+
     def pick(self, choices: Sequence[T]) -> T:
-        return self.random.choice(choices)
+        return choices[self.below(len(choices))]
 
     def often(self, percent: int) -> bool:
-        return self.random.randrange(100) < percent
+        return self.below(100) < percent
 
     def page(self) -> int:
-        return self.base + self.random.randrange(self.profile.pages)
+        return self.base + self.below(self.profile.pages)
 
     def pages(self) -> int:
-        return self.pick([1, 1, 1, 2, 2, 3, 4])
+        return self.pick((1, 1, 1, 2, 2, 3, 4))
 
     def length(self, pages: int) -> int:
-        return pages * PAGE - (self.pick([1, 100, 4095]) if self.often(10) else 0)
+        return pages * PAGE - (self.pick((1, 100, 4095)) if self.often(10) else 0)
 
     def prot(self) -> int:
-        return self.pick([READ | WRITE] * 5 + [READ] * 4 + [0, WRITE, READ | EXEC, READ | WRITE | EXEC])
+        return self.pick(PROTECTIONS)
 
     def area(self) -> Optional[Area]:
         return self.pick(self.space.areas) if self.space.areas else None
@@ -184,9 +195,9 @@ class Recipes:
         if area is None or self.often(8):
             return self.page(), self.pages()
         size = min(area.hi - area.lo, 16)
-        start = area.lo + self.pick([0, 0, self.random.randrange(size)])
+        start = area.lo + self.pick([0, 0, self.below(size)])
         end = self.pick(
-            [area.hi, start + 1, start + self.random.randint(1, size)] + [area.hi + self.pages()] * self.often(40)
+            [area.hi, start + 1, start + 1 + self.below(size)] + [area.hi + self.pages()] * self.often(40)
         )
         return start, max(end - start, 1)
 
@@ -219,7 +230,7 @@ class Recipes:
 
     def map_hint(self) -> Drawn:
         word, arguments = self.map_fixed(flags=0)
-        return word, [arguments[0] + self.pick([0, 0, 0, 8]), *arguments[1:]]
+        return word, [arguments[0] + self.pick((0, 0, 0, 8)), *arguments[1:]]
 
     def map_noreplace(self) -> Drawn:
         return self.map_fixed(flags=NOREPLACE)
@@ -231,17 +242,17 @@ class Recipes:
         return word, arguments
 
     def map_shared(self) -> Drawn:
-        return self.map_fixed(flags=self.pick([FIXED, 0]), kind=SHARED | ANONYMOUS)
+        return self.map_fixed(flags=self.pick((FIXED, 0)), kind=SHARED | ANONYMOUS)
 
     def map_file(self) -> Drawn:
-        readable = [file for file in self.trace.files if "r" in file.mode]
+        readable = [file for file in self.files if "r" in file.mode]
         if not readable:
             return self.map_fixed()
         file = self.pick(readable)
-        kind = self.pick([PRIVATE, PRIVATE, SHARED])
+        kind = self.pick((PRIVATE, PRIVATE, SHARED))
         prot = self.pick([READ, READ, READ | EXEC]) if kind == SHARED and "w" not in file.mode else None
-        flags = self.pick([FIXED, FIXED, 0])
-        return self.map_fixed(flags, prot, file.descriptor, self.random.randrange(5) * PAGE, kind)
+        flags = self.pick((FIXED, FIXED, 0))
+        return self.map_fixed(flags, prot, file.descriptor, self.below(5) * PAGE, kind)
 
     def map_beside(self) -> Drawn:
         """Right behind an area or in front of it, mostly with the same attributes, so that the two join."""
@@ -262,7 +273,7 @@ class Recipes:
         page = self.page()
         ends = [self.space.limit, self.space.limit + 1, self.space.top, FLOOR, FLOOR * 2]
         pages = max(self.pick(ends) - page, 1)
-        flags = PRIVATE | ANONYMOUS | self.pick([0, 0, FIXED, NOREPLACE])
+        flags = PRIVATE | ANONYMOUS | self.pick((0, 0, FIXED, NOREPLACE))
         return self.pick(
             [
                 ("mmap", [self.pick([0, page * PAGE]), pages * PAGE, self.prot(), flags, -1, 0]),
@@ -274,8 +285,8 @@ class Recipes:
     def map_last(self) -> Drawn:
         """At a fixed place up to the end of user memory, or a page past it."""
         pages = self.pages()
-        flags = PRIVATE | ANONYMOUS | self.pick([FIXED, FIXED, NOREPLACE])
-        start = self.space.limit - pages + self.pick([0, 0, 0, 1])
+        flags = PRIVATE | ANONYMOUS | self.pick((FIXED, FIXED, NOREPLACE))
+        start = self.space.limit - pages + self.pick((0, 0, 0, 1))
         return "mmap", [start * PAGE, pages * PAGE, self.prot(), flags, -1, 0]
 
     def unmap(self) -> Drawn:
@@ -330,27 +341,27 @@ class Recipes:
             return self.map_fixed()
         start = max(area.hi - self.pages(), area.lo) if self.often(60) else area.lo
         olds = area.hi - start if self.often(80) else 1
-        news = max(olds + self.pick([-2, -1, 0, 1, 1, 2, 3]), 1)
-        return "mremap", [start * PAGE, olds * PAGE, self.length(news), self.pick([0, MAYMOVE])]
+        news = max(olds + self.pick((-2, -1, 0, 1, 1, 2, 3)), 1)
+        return "mremap", [start * PAGE, olds * PAGE, self.length(news), self.pick((0, MAYMOVE))]
 
     def move(self) -> Drawn:
         area = self.area()
         if area is None:
             return self.map_fixed()
         olds = min(self.pages(), area.hi - area.lo)
-        start, news = self.random.choice([area.lo, area.hi - olds]), max(olds + self.pick([0, 0, 0, -1, 1]), 1)
+        start, news = self.pick([area.lo, area.hi - olds]), max(olds + self.pick((0, 0, 0, -1, 1)), 1)
         return "mremap", [start * PAGE, olds * PAGE, news * PAGE, MAYMOVE | TO_FIXED, self.free_page(news) * PAGE]
 
     def touch(self) -> Drawn:
         area = self.area()
         page = self.page()
         if area and self.often(88):
-            page = self.pick([area.lo, area.hi - 1, area.lo + self.random.randrange(min(area.hi - area.lo, 16))])
+            page = self.pick([area.lo, area.hi - 1, area.lo + self.below(min(area.hi - area.lo, 16))])
             file = self.space.file_of.get(area.object)
             if file and self.often(40):  # where the file ends
                 last = area.lo + file.size // PAGE - area.offset
                 page = last if area.lo <= last < area.hi else page
-        return "fault", [page * PAGE + self.pick([0, 0, 8, 4095]), self.pick("rrrwwx")]
+        return "fault", [page * PAGE + self.pick((0, 0, 8, 4095)), self.pick("rrrwwx")]
 
     def touch_below(self) -> Drawn:
         """The page below an area that grows, or one a page lower."""
@@ -358,13 +369,13 @@ class Recipes:
         if not growing:
             return self.map_growing()
         page = self.pick(growing).lo - self.pick([1] * 8 + [2])
-        return "fault", [page * PAGE + self.pick([0, 8]), self.pick("rrwwwx")]
+        return "fault", [page * PAGE + self.pick((0, 8)), self.pick("rrwwwx")]
 
     def brk(self) -> Drawn:
         if not self.space.heap:
             return "brk", [self.page() * PAGE]
         low, now = self.space.heap * PAGE, self.space.break_
-        higher, lower = now + PAGE * self.random.randint(1, 5), now - PAGE * self.random.randint(1, 4)
+        higher, lower = now + PAGE * (1 + self.below(5)), now - PAGE * (1 + self.below(4))
         odd = now + self.pick([-100, 100, 3 * PAGE - 1])
         end = -(-now // PAGE)
         # A break within an area that goes on above it leaves both of its ends.
@@ -374,11 +385,11 @@ class Recipes:
     def map_over_break(self) -> Drawn:
         """At a fixed place from below the break to above it, so that a lower break leaves both ends."""
         end = -(-self.space.break_ // PAGE)
-        start = end - self.pick([1, 2, 3])
+        start = end - self.pick((1, 2, 3))
         if not self.space.heap or start < self.space.min:
             return self.map_fixed()
-        pages = end - start + self.pick([1, 1, 2])
-        word, (_, _, *rest) = self.map_file() if self.trace.files and self.often(50) else self.map_fixed()
+        pages = end - start + self.pick((1, 1, 2))
+        word, (_, _, *rest) = self.map_file() if self.files and self.often(50) else self.map_fixed()
         rest[1] |= FIXED
         return word, [start * PAGE, pages * PAGE, *rest]
 
@@ -418,16 +429,16 @@ class Recipes:
         ends = [self.space.min, self.space.min - 1, self.space.top - pages, self.space.top, self.space.limit - pages, 0]
         places = [area.hi, area.lo - pages, area.hi - 1, area.lo - pages + 1, area.lo] if area else []
         page = max(self.pick(places * 2 + ends), 0)
-        flags = self.pick([PRIVATE, PRIVATE, SHARED]) | ANONYMOUS
-        return "mmap", [page * PAGE + self.pick([0, 0, 0, 1, PAGE - 1]), self.length(pages), self.prot(), flags, -1, 0]
+        flags = self.pick((PRIVATE, PRIVATE, SHARED)) | ANONYMOUS
+        return "mmap", [page * PAGE + self.pick((0, 0, 0, 1, PAGE - 1)), self.length(pages), self.prot(), flags, -1, 0]
 
     def map_below_grower(self) -> Drawn:
         """A page or two below an area that grows, or right at it."""
         growing = [area for area in self.space.areas if area.grows and area.lo > 4]
         if not growing:
             return self.map_growing()
-        end, pages = self.pick(growing).lo - self.pick([0, 1, 1, 2]), self.pick([1, 2])
-        flags = PRIVATE | ANONYMOUS | FIXED | self.pick([0, 0, GROWS])
+        end, pages = self.pick(growing).lo - self.pick((0, 1, 1, 2)), self.pick((1, 2))
+        flags = PRIVATE | ANONYMOUS | FIXED | self.pick((0, 0, GROWS))
         return "mmap", [max(end - pages, 0) * PAGE, pages * PAGE, self.prot(), flags, -1, 0]
 
     def protect_as_neighbour(self) -> Drawn:
@@ -465,8 +476,8 @@ class Recipes:
             return self.resize()
         area, room = pair[0], pair[1].lo - pair[0].hi
         olds = self.pick([1, area.hi - area.lo])
-        news = max(olds + room + self.pick([-1, 0, 0, 1]), 1)
-        return "mremap", [(area.hi - olds) * PAGE, olds * PAGE, news * PAGE, self.pick([0, MAYMOVE])]
+        news = max(olds + room + self.pick((-1, 0, 0, 1)), 1)
+        return "mremap", [(area.hi - olds) * PAGE, olds * PAGE, news * PAGE, self.pick((0, MAYMOVE))]
 
     def move_beside(self) -> Drawn:
         """An area, or an end of it, to where it touches another one, or what is left of itself."""
@@ -474,13 +485,13 @@ class Recipes:
         if area is None or other is None:
             return self.map_fixed()
         olds = self.pick([area.hi - area.lo, 1])
-        start, news = self.pick([area.lo, area.hi - olds]), max(olds + self.pick([0, 0, 0, -1, 1]), 1)
+        start, news = self.pick([area.lo, area.hi - olds]), max(olds + self.pick((0, 0, 0, -1, 1)), 1)
         to = max(self.pick([other.hi, other.lo - news, other.lo, start + olds, start - news]), 0)
         return "mremap", [start * PAGE, olds * PAGE, news * PAGE, MAYMOVE | TO_FIXED, to * PAGE]
 
     def maps(self) -> Drawn:
-        is_full = sum(line.word == "maps" for line in self.trace.lines) >= LIMITS["maps"]
-        return self.touch() if is_full else ("maps", [])
+        self.reads += 1
+        return self.touch() if self.reads > LIMITS["maps"] else ("maps", [])
 
     def fork(self) -> Drawn:
         if self.at_once:
@@ -522,12 +533,12 @@ class Recipes:
             [address, length, prot, flags & ~both, descriptor, offset],
             [address, length, prot, flags | both, descriptor, offset],
             [address, length, prot, flags & ~both | SHARED | GROWS, descriptor, offset],
-            [address, 2**64 - self.pick([1, 100, PAGE - 1, PAGE]), prot, flags, descriptor, offset],
-            *[[fixed_at, length, prot, no_place | self.pick([FIXED, NOREPLACE]), descriptor, offset]] * 4,
+            [address, 2**64 - self.pick((1, 100, PAGE - 1, PAGE)), prot, flags, descriptor, offset],
+            *[[fixed_at, length, prot, no_place | self.pick((FIXED, NOREPLACE)), descriptor, offset]] * 4,
             [self.taken_page() * PAGE, length, prot, no_place | NOREPLACE, descriptor, offset],
             [0, (limit - FLOOR) * PAGE, prot, no_place | ANONYMOUS, -1, 0],
         ]
-        for file in self.trace.files:
+        for file in self.files:
             choices.append([address, length, prot, flags & ~ANONYMOUS, file.descriptor, 2**63 - PAGE])
             if file.mode != "rw":
                 choices += [[address, length, WRITE, flags & ~both & ~ANONYMOUS | SHARED, file.descriptor, 0]] * 2
@@ -540,8 +551,8 @@ class Recipes:
             [address + 8, length, *rest],
             [address, 0, *rest],
             [address, (limit + 1) * PAGE - address, *rest],
-            [address, 2**64 - self.pick([1, 100, PAGE - 1, PAGE]), *rest],
-            [address, (2**64 - address) % 2**64 - self.pick([0, 1, PAGE]), *rest],
+            [address, 2**64 - self.pick((1, 100, PAGE - 1, PAGE)), *rest],
+            [address, (2**64 - address) % 2**64 - self.pick((0, 1, PAGE)), *rest],
             [self.free_page(1) * PAGE, length, *rest],
         ]
         if word == "mprotect":
@@ -564,8 +575,8 @@ class Recipes:
             [address, olds, news, TO_FIXED | MAYMOVE, address],
             [address, olds + 8 * PAGE, news + 12 * PAGE, flags, *new],
             [address, olds, limit * PAGE, flags & ~TO_FIXED],
-            [address, 2**64 - self.pick([1, PAGE]), news, flags, *new],
-            [address, olds, 2**64 - self.pick([1, PAGE]), flags, *new],
+            [address, 2**64 - self.pick((1, PAGE)), news, flags, *new],
+            [address, olds, 2**64 - self.pick((1, PAGE)), flags, *new],
         ]
         on_object = [area for area in self.space.areas if area.object]
         choices += [[area.lo * PAGE, PAGE, 2**63, MAYMOVE] for area in on_object[:2]]
@@ -578,7 +589,7 @@ class Recipes:
             [2**64 - 1, "w"],
             [arguments[0], self.pick("wx")],
             [2**47 + arguments[0], "r"],
-            [VSYSCALL + 8 * self.pick([0, 2]), self.pick("rwx")],
+            [VSYSCALL + 8 * self.pick((0, 2)), self.pick("rwx")],
         ]
         return self.pick(choices + [[(area.hi - 1) * PAGE, "r"] for area in past_end[:2]])
 
@@ -586,29 +597,23 @@ class Recipes:
 class Generator(Recipes):
     """Draws one trace."""
 
-    def __init__(
-        self,
-        name: str,
-        seed: str,
-        lines: int,
-        threads: int = 0,
-        is_fitted: bool = False,
-        space_of: Callable[[Trace], Space] = Space,
-    ) -> None:
-        """`threads` is how many run at once, where they do, `is_fitted` whether the running kernel has to have the settings,
-        and `space_of` makes the space that answers the lines."""
+    def __init__(self, name: str, seed: str, lines: int, threads: int = 0, is_fitted: bool = False) -> None:
+        """`threads` is how many run at once, where they do, `is_fitted` whether the running kernel has to have the settings."""
         self.random = random.Random(f"{name} {seed}")
-        self.profile = self.mixed() if name == "mix" else PROFILES[name]
+        super().__init__(self.random, PROFILES[name])
+        if name == "mix":
+            self.profile = self.mixed()
         self.lines = lines * 10 if name == "many" else lines
         self.at_once, self.children = threads, self.pick([1, 2, LIMITS["forks"]])
         self.threads = list(range(threads)) if threads else [0, 1] if name == "faults" else [0]
         self.base = self.pick(self.profile.bases)
         self.trace = Trace(version=2 if name == "wide" else 1)
         self.set_up()
+        self.files = self.trace.files
         if is_fitted:
             self.trace = fitted(self.trace)
-        self.spaces = {0: space_of(self.trace)}
-        self.space: Space = self.spaces[0]
+        self.spaces = {0: Space(self.trace)}
+        self.space = self.spaces[0]
 
     def mixed(self) -> Profile:
         parts = [PROFILES[part] for part in self.random.sample(MIXED, 3)]
@@ -619,26 +624,26 @@ class Generator(Recipes):
     def set_up(self) -> None:
         settings = self.trace.settings
         if "limit" in self.profile.settings:
-            settings["limit"] = self.pick([1, 2, 3, 4, 5, 6, 8])
+            settings["limit"] = self.pick((1, 2, 3, 4, 5, 6, 8))
         if "top" in self.profile.settings and self.often(50):
             settings["top"] = PAGE * self.pick([1, DEFAULT_MIN + 1, LOW + 6, FLOOR + 2, DEFAULT_TOP - 5, USER_PAGES[1]])
         if "min" in self.profile.settings and self.often(50):
             settings["min"] = PAGE * self.pick([1, DEFAULT_MIN - 1, LOW + 2, FLOOR + 1])
         if "few" in self.profile.settings and self.often(20):
-            settings["limit"] = self.pick([4, 5, 6, 8])
+            settings["limit"] = self.pick((4, 5, 6, 8))
         if "lowest" in self.profile.settings and self.often(40):
             settings["min"] = PAGE * (self.base + 3)
         if "heap" in self.profile.settings:
-            settings["heap"] = PAGE * (self.base + self.random.randrange(12))
+            settings["heap"] = PAGE * (self.base + self.below(12))
         for number in range(self.profile.files):
-            mode, size = self.pick(MODES[number]), self.pick([0, 1, 4096, 5000, 9000, 65536])
+            mode, size = self.pick(MODES[number]), self.pick((0, 1, 4096, 5000, 9000, 65536))
             self.trace.files.append(File(number + 3, mode, size, 8, 1, number + 11, f"/srv/file-{number + 3}"))
 
     # A trace
 
     def draw(self) -> Trace:
         """The trace, with the numbers of its lines."""
-        names, weights = list(self.profile.weights), list(self.profile.weights.values())
+        names, weights = list(self.profile.weights), list(itertools.accumulate(self.profile.weights.values()))
         for _ in range(self.lines):
             thread = self.pick([*self.spaces, *self.threads[1:]])
             self.space = self.spaces.get(thread, self.spaces[0])
@@ -646,7 +651,7 @@ class Generator(Recipes):
             name = (
                 self.pick(["map_fixed", "map_anywhere"])
                 if len(self.trace.lines) < 2
-                else self.random.choices(names, weights)[0]
+                else self.random.choices(names, cum_weights=weights)[0]
             )
             word, arguments = getattr(self, name)()
             if self.often(SPOILED):

@@ -5,7 +5,6 @@ an output stand decides all else that it says. So the judge goes down the output
 line, has to stand where it may, behind the line that it names, and has to say what the model says after the calls above it.
 Then the list after all calls has to follow, then each child in the same way, and nothing else.
 """
-from __future__ import annotations
 
 import io
 import re

@@ -1,5 +1,4 @@
 """JUnit's XML, as CI servers read it: a suite of cases, of which each has passed, failed or was left out."""
-from __future__ import annotations
 
 import re
 from xml.etree import ElementTree

@@ -9,11 +9,17 @@ from collections.abc import Hashable
 from typing import Any
 
 from .. import model
-from ..model import Area, Space, first_above, index_of, pages_of
+from ..model import ATTRIBUTES, Area, Space, first_above, index_of, pages_of
 from ..traces import MAP, PAGE, Line, Trace
 
 Pair = tuple[Hashable, ...]
 MOST_JOINTS = 3  # of a call that are told apart
+NUMBERS: dict[tuple[Hashable, ...], int] = {}
+
+
+def number_of(words: tuple[Hashable, ...]) -> int:
+    """A number in the place of words, which has its hash at once."""
+    return NUMBERS.setdefault(words, len(NUMBERS))
 
 
 def near(distance: int) -> int:
@@ -25,13 +31,12 @@ def kind_of(area: Area | None) -> int:
     """Of which kind a VMA is."""
     if area is None:
         return -1
-    backed = 1 + (area.offset > 0) if area.object else 0
-    return backed + 3 * area.shared + 6 * area.grows + 12 * area.sealed + 24 * area.heap
+    _, _, _, _, shared, grows, sealed, heap, backing, offset = area
+    return (1 + (offset > 0) if backing else 0) + 3 * shared + 6 * grows + 12 * sealed + 24 * heap
 
 
-def met(areas: list[Area], page: int) -> tuple[Area | None, int]:
-    """The VMA that has a page, and where in it the page is; or where in a hole."""
-    place = first_above(areas, page)
+def met(areas: list[Area], page: int, place: int) -> tuple[Area | None, int]:
+    """The VMA that has a page, and where in it the page is; or where in a hole. `place` is that of the first that ends above."""
     area = areas[place] if place < len(areas) else None
     if area is not None and area.lo <= page:
         return area, (area.lo == page) + 2 * (area.hi == page + 1)
@@ -63,8 +68,10 @@ class Watched(Space):
     def joins(self, first: Area, second: Area) -> bool:  # type: ignore[override]
         if first.hi != second.lo:
             return False
-        joint = next((place for place in range(2, 9) if first[place] != second[place]), 0)
-        if not joint and second.offset != index_of(first, first.hi):
+        joint = 0
+        if first[ATTRIBUTES] != second[ATTRIBUTES]:
+            joint = next(place for place in range(2, 9) if first[place] != second[place])
+        elif second.offset != index_of(first, first.hi):
             joint = 9
         self.joints += (joint,)
         return not joint
@@ -109,10 +116,10 @@ class Watched(Space):
     def reach(self, line: Line, before: list[Area], end: int, reply: str) -> None:
         found: list[Pair] = []
         for place, (start, stop) in enumerate(self.ranges(line, end, reply)):
-            rows = (place, *self.rows)
+            rows = number_of((place, *self.rows))
             found += self.reached(rows, before, start, stop)
             found.append((rows, 0, near(start - self.min), near(stop - self.limit), near(start - model.FLOOR)))
-        rows = (line.word, *self.rows)
+        rows = number_of((line.word, *self.rows))
         found += [
             (rows, 1, self.joints[:MOST_JOINTS]),
             (rows, 2, self.last),
@@ -120,17 +127,19 @@ class Watched(Space):
             (rows, 4, *self.details(line)),
         ]
         self.last = self.rows[-1] if self.rows else ""
-        for pair in found:
-            if pair not in self.known:
-                self.known.add(pair)
-                self.fresh[0] = line.number
+        if not self.known.issuperset(found):
+            self.known.update(found)
+            self.fresh[0] = line.number
 
     def reached(self, rows: Hashable, before: list[Area], start: int, stop: int) -> list[Pair]:
         """Pairs of a range."""
-        first, at = met(before, start)
-        last, to = met(before, max(stop - 1, start))
-        count = min(first_above(before, stop) - first_above(before, start), 3)
-        below, above = met(before, start - 1)[0], met(before, stop)[0]
+        begin = first_above(before, start)
+        end = begin if begin < len(before) and before[begin].hi > stop else first_above(before, stop)
+        page = max(stop - 1, start)
+        first, at = met(before, start, begin)
+        last, to = met(before, page, end - (end > 0 and before[end - 1].hi > page))
+        below, count = met(before, start - 1, begin - (begin > 0 and before[begin - 1].hi == start))[0], min(end - begin, 3)
+        above = before[end] if end < len(before) and before[end].lo <= stop else None
         kind, past = kind_of(first), self.past.get(first, "") if first else ""
         return [
             (rows, 5, at, to, count),

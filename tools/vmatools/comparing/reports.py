@@ -1,6 +1,5 @@
 """What `vma compare` prints: each kind of difference when it is first seen, its smallest trace when that is found, and at the
 end what counts most."""
-from __future__ import annotations
 
 from collections.abc import Iterator
 from typing import TextIO

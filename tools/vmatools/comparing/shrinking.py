@@ -1,5 +1,4 @@
 """Makes a trace small: as few lines as can be, and as small and round numbers."""
-from __future__ import annotations
 
 from collections.abc import Callable, Iterable, Iterator, Sequence
 from typing import Any, Optional

@@ -1,5 +1,4 @@
 """Makes the trace of a kind of difference small, as long as it still differs in the same way, while a comparison goes on."""
-from __future__ import annotations
 
 import time
 from collections.abc import Callable

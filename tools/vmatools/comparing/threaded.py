@@ -1,15 +1,15 @@
 """Systems that run the threads of a trace at once. Their output says in which order the calls were made, and may be any
 that is legal: the program's `check` judges it."""
-from __future__ import annotations
 
 import io
 import re
+from collections.abc import Sequence
 from typing import Optional
 
 from ..outputs import ITEM, Difference, answer_of
 from ..running.program import run
 from ..traces import Trace
-from .comparison import PROGRAM_SECONDS, CannotRun, Sides, words_of
+from .comparison import PROGRAM_SECONDS, CannotRun, Seen, Sides, words_of
 from .judging import first_wrong
 
 REPEATS = 3  # runs of one trace, since threads come in another order each time
@@ -18,7 +18,13 @@ REPEATS = 3  # runs of one trace, since threads come in another order each time
 class Threads(Sides):
     """What is legal, here, and the system under test, there."""
 
-    def raw_difference(self, trace: Trace, seconds: Optional[float] = None) -> Optional[Difference]:
+    def seen(self, traces: Sequence[Trace]) -> list[Seen]:
+        """Nothing: each trace is run several times."""
+        return [Seen()] * len(traces)
+
+    def raw_difference(
+        self, trace: Trace, seconds: Optional[float] = None, seen: Seen = Seen()
+    ) -> Optional[Difference]:
         """The first output of some runs that is not legal, by its first bad line."""
         for _ in range(REPEATS):
             self.go_on()

@@ -4,7 +4,6 @@ A trace that was drawn for an empty space is fitted line by line, beside the mod
 place that would be searched becomes a fixed one in the window, and a line that leaves the window is dropped, unless any
 system refuses it.
 """
-from __future__ import annotations
 
 import copy
 import random

@@ -1,5 +1,4 @@
 """The axis of addresses of a picture: where each page lies, with gaps, and areas that stay as they are, folded."""
-from __future__ import annotations
 
 import math
 from collections.abc import Iterable

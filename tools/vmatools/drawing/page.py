@@ -1,5 +1,4 @@
 """A run as a page for any browser, in parts that open by a click."""
-from __future__ import annotations
 
 from ..console import Progress, counted
 from ..traces import File

@@ -36,6 +36,8 @@ EDGES = {
     "-wx": "#b9578a",
 }
 RED = "#c62f2f"
+MIDDLE: Attributes = {"text_anchor": "middle"}
+HEADING: Attributes = {"fill": FAINT, "font_size": 10}
 CHANGED: Attributes = {"stroke": INK, "stroke_width": 1.8}
 UNMAPPED: Attributes = {"fill": "#fff5f5", "stroke": RED, "stroke_width": 1.2, "stroke_dasharray": "3 2.5"}
 
@@ -63,16 +65,8 @@ def short_call(line: Line, files: Files) -> str:
     """A line in few words: sizes in units, protections as letters."""
     word, a = line.word, line.arguments
     if word == "mmap":
-        names = [
-            said
-            for name, said in (
-                ("FIXED", "fixed"),
-                ("FIXED_NOREPLACE", "noreplace"),
-                ("SHARED", "shared"),
-                ("GROWSDOWN", "grows"),
-            )
-            if a[3] & MAP[f"MAP_{name}"]
-        ]
+        known = {"FIXED": "fixed", "FIXED_NOREPLACE": "noreplace", "SHARED": "shared", "GROWSDOWN": "grows"}
+        names = [said for name, said in known.items() if a[3] & MAP[f"MAP_{name}"]]
         file = files.get(a[4])
         source = [] if a[3] & MAP["MAP_ANONYMOUS"] else [file.name.rsplit("/", 1)[-1][:24] if file else f"fd {a[4]}"]
         offset = [f"+{at(a[5])}"] if source and a[5] else []
@@ -166,6 +160,15 @@ class Picture:
 
     # The parts
 
+    def box(self, *place: Any, **values: Any) -> None:
+        self.out.append(rect(*place, **values))
+
+    def say(self, *place: Any, **values: Any) -> None:
+        self.out.append(words(*place, **values))
+
+    def line(self, *points: Any, **values: Any) -> None:
+        self.out.append(path(*points, **values))
+
     def draw(self) -> str:
         self.lay_out()
         self.version_bands()
@@ -183,67 +186,36 @@ class Picture:
             end = self.version_top(version + 1)
             if end == self.bottom:
                 end += 4
-            self.out.append(
-                rect(
-                    PAD - 6,
-                    row - 2,
-                    self.width - 2 * PAD + 12,
-                    end - row,
-                    rx=5,
-                    fill="#f7f8fa" if version % 2 else "#fff",
-                )
-            )
-            self.out.append(words(PAD, row + 15.5, f"v{version}", font_weight="600", font_size="12"))
+            fill = "#f7f8fa" if version % 2 else "#fff"
+            self.box(PAD - 6, row - 2, self.width - 2 * PAD + 12, end - row, rx=5, fill=fill)
+            self.say(PAD, row + 15.5, f"v{version}", font_weight="600", font_size="12")
 
     def lanes(self) -> None:
         for place, thread in enumerate(self.threads):
             x, colour = self.lanes_x + self.lane * (place + 0.5), thread_colour(thread)
             line = f"M{number(x)} {number(self.top - 8)}V{number(self.bottom - 4)}"
-            self.out.append(path(line, stroke=colour, stroke_width=1.6, opacity=0.35))
+            self.line(line, stroke=colour, stroke_width=1.6, opacity=0.35)
             name, size = (f"t{thread}", 11) if self.lane == LANE else (str(thread), 8)
-            self.out.append(
-                words(
-                    x,
-                    self.top - 13,
-                    name,
-                    f"thread {thread}",
-                    text_anchor="middle",
-                    font_size=size,
-                    font_weight="600",
-                    fill=colour,
-                )
-            )
-        self.out.append(words(PAD, self.top - 13, "version", fill=FAINT, font_size=10))
-        self.out.append(words(self.text_x, self.top - 13, "what each thread does", fill=FAINT, font_size=10))
-        self.out.append(
-            words(
-                self.text_x + self.call_width,
-                self.top - 13,
-                "what it results in",
-                fill=FAINT,
-                font_size=10,
-                text_anchor="end",
-            )
-        )
+            bold = {**MIDDLE, "font_size": size, "font_weight": "600"}
+            self.say(x, self.top - 13, name, f"thread {thread}", **bold, fill=colour)
+        self.say(PAD, self.top - 13, "version", **HEADING)
+        self.say(self.text_x, self.top - 13, "what each thread does", **HEADING)
+        self.say(self.text_x + self.call_width, self.top - 13, "what it results in", **HEADING, text_anchor="end")
         if self.axis.cells:
-            self.out.append(words(self.map_x, PAD + 6, "VMAs by address →", fill=FAINT, font_size=10))
+            self.say(self.map_x, PAD + 6, "VMAs by address →", **HEADING)
 
     def addresses(self) -> None:
         """A rule where a VMA begins or ends, and its address where there is room."""
         last = -1e9
         for page, x in sorted(self.axis.x.items()):
             x += self.map_x
-            self.out.append(path(f"M{number(x)} {number(self.top - 8)}V{number(self.bottom)}", stroke=RULE))
+            self.line(f"M{number(x)} {number(self.top - 8)}V{number(self.bottom)}", stroke=RULE)
             text, room = f"{page * PAGE:x}", 11 if self.slanted else len(f"{page * PAGE:x}") * 6.2 + 6
             if x - last < room:
                 continue
             last = x
-            turn = (
-                {"transform": f"rotate(-50 {number(x)} {number(self.top - 12)})"}
-                if self.slanted
-                else {"text_anchor": "middle"}
-            )
-            self.out.append(words(x, self.top - 12, text, font_family=MONO, font_size=10, fill="#59616d", **turn))
+            turn = {"transform": f"rotate(-50 {number(x)} {number(self.top - 12)})"} if self.slanted else MIDDLE
+            self.say(x, self.top - 12, text, font_family=MONO, font_size=10, fill="#59616d", **turn)
         for start, (lo, hi, weight, quiet) in zip(self.axis.starts, self.axis.cells):
             if weight is None:
                 self.folded(self.map_x + start, quiet)
@@ -255,14 +227,10 @@ class Picture:
         middle = x + width / 2
         zigzag = "".join(f"l{'4' if step % 2 else '-4'} 6" for step in range(int((self.bottom - self.top + 4) // 6)))
         fill = "#f0f1f4" if quiet else "#fff"
-        self.out.append(rect(x + 3, self.top - 6, width - 6, self.bottom - self.top + 6, said, fill=fill, opacity=0.9))
-        self.out.append(
-            path(f"M{number(middle + 2)} {number(self.top - 6)}{zigzag}", fill="none", stroke="#c9ced6", stroke_width=1)
-        )
+        self.box(x + 3, self.top - 6, width - 6, self.bottom - self.top + 6, said, fill=fill, opacity=0.9)
+        self.line(f"M{number(middle + 2)} {number(self.top - 6)}{zigzag}", fill="none", stroke="#c9ced6", stroke_width=1)
         if quiet:
-            self.out.append(
-                words(middle, self.top - 12, f"+{quiet}", said, text_anchor="middle", font_size=9, fill=FAINT)
-            )
+            self.say(middle, self.top - 12, f"+{quiet}", said, **MIDDLE, font_size=9, fill=FAINT)
 
     def areas(self) -> None:
         """Each area is one box, from the version that made it to the one that ended it."""
@@ -271,11 +239,11 @@ class Picture:
             version = self.list_from + place
             here = {area for area in areas if area in self.axis.shown}
             for area in sorted(set(alive) - here):
-                self.box(area, alive.pop(area), version)
+                self.area(area, alive.pop(area), version)
             for area in here:
                 alive.setdefault(area, version)
 
-    def box(self, area: Area, since: int, until: int) -> None:
+    def area(self, area: Area, since: int, until: int) -> None:
         """An area that is there from one version until another."""
         y = self.version_top(since) if since >= self.first else self.top
         end = self.version_top(until) if until <= self.last else self.bottom + 2
@@ -285,22 +253,10 @@ class Picture:
         width, height = self.map_x + self.axis.x[area.hi] - x, end - y - 3
         title = f"{self.run.space.maps_line(area)}\nfrom version {since} to {until - 1}"
         dash: Attributes = {"stroke_dasharray": "5 2"} if area.shared else {}
-        self.out.append(
-            rect(
-                x + 1,
-                y,
-                width - 2,
-                height,
-                title,
-                rx=3,
-                fill=FILLS[letters],
-                stroke=EDGES[letters],
-                stroke_width=1.8 if area.sealed else 1,
-                **dash,
-            )
-        )
+        edge: Attributes = {"stroke": EDGES[letters], "stroke_width": 1.8 if area.sealed else 1, **dash}
+        self.box(x + 1, y, width - 2, height, title, rx=3, fill=FILLS[letters], **edge)
         if area.object:
-            self.out.append(rect(x + 1, y, min(4, width / 3), height, rx=1.5, fill=EDGES[letters]))
+            self.box(x + 1, y, min(4, width / 3), height, rx=1.5, fill=EDGES[letters])
         self.labels(area, letters, x, y, width, height)
 
     def labels(self, area: Area, letters: str, x: float, y: float, width: float, height: float) -> None:
@@ -318,18 +274,8 @@ class Picture:
             if not shown or is_cut or 16 + step > height + 1:
                 continue
             middle, size = x + width / 2 + (1.5 if area.object else 0), 10.5 if place == 0 else 9.5
-            self.out.append(
-                words(
-                    middle,
-                    y + 15.5 + step,
-                    shown,
-                    text_anchor="middle",
-                    font_family=MONO,
-                    font_size=size,
-                    fill="#27303b",
-                    pointer_events="none",
-                )
-            )
+            how: Attributes = {"font_family": MONO, "font_size": size, "fill": "#27303b", "pointer_events": "none"}
+            self.say(middle, y + 15.5 + step, shown, **MIDDLE, **how)
             step += 16 if place == 0 else 13
 
     def changes(self) -> None:
@@ -343,30 +289,11 @@ class Picture:
             for lo, hi, is_mapped in self.changed_spans(before, after):
                 x, end = self.map_x + self.axis.x[lo], self.map_x + self.axis.x[hi]
                 if is_mapped:
-                    self.out.append(
-                        rect(
-                            x + 1.5,
-                            row + 0.5,
-                            end - x - 3,
-                            ROW - 4,
-                            rx=3,
-                            fill="none",
-                            **CHANGED,
-                            pointer_events="none",
-                        )
-                    )
+                    outline: Attributes = {"rx": 3, "fill": "none", **CHANGED, "pointer_events": "none"}
+                    self.box(x + 1.5, row + 0.5, end - x - 3, ROW - 4, **outline)
                 else:
-                    self.out.append(
-                        rect(
-                            x + 2,
-                            row + 1,
-                            end - x - 4,
-                            ROW - 5,
-                            f"unmapped in version {item.version}",
-                            rx=3,
-                            **UNMAPPED,
-                        )
-                    )
+                    said = f"unmapped in version {item.version}"
+                    self.box(x + 2, row + 1, end - x - 4, ROW - 5, said, rx=3, **UNMAPPED)
 
     def changed_spans(self, before: list[Area], after: list[Area]) -> list[Span]:
         """The runs of cells that a call changed, each with whether it is mapped afterwards."""
@@ -396,7 +323,7 @@ class Picture:
         title += f"\n{self.run.right}: {item.expected}" if item.expected else ""
         wrong = item.expected is not None
         if wrong:
-            self.out.append(rect(self.text_x - 4, row, self.call_width + 12, ROW - 4, rx=3, fill="#fde7e7", stroke=RED))
+            self.box(self.text_x - 4, row, self.call_width + 12, ROW - 4, rx=3, fill="#fde7e7", stroke=RED)
         dot, radius = RED if item.was_refused else colour, 4 if self.lane == LANE else 3
         if item.is_call:
             self.out.append(circle(x, y, radius + 1, title, fill=dot, stroke="#fff", stroke_width=1.5))
@@ -404,33 +331,14 @@ class Picture:
             self.out.append(circle(x, y, radius, title, fill="#fff", stroke=dot, stroke_width=1.8))
         result = short_result(item) + (f"  ≠ {item.expected}" if wrong else "")
         label = f"L{line.number}"
-        self.out.append(words(self.text_x, row + 14.5, label, font_size=10, fill=FAINT))
+        self.say(self.text_x, row + 14.5, label, font_size=10, fill=FAINT)
         begin = self.text_x + 6.5 * max(len(label), 3) + 8
         room = self.text_x + self.call_width - begin - 6.2 * len(result) - 14
         said = fitted(short_call(line, self.files), room, 6.7)
-        self.out.append(
-            words(
-                begin,
-                row + 14.5,
-                said,
-                title,
-                font_family=MONO,
-                font_size=11,
-                font_weight="500" if item.is_call else "400",
-            )
-        )
-        self.out.append(
-            words(
-                self.text_x + self.call_width,
-                row + 14.5,
-                result,
-                title,
-                text_anchor="end",
-                font_family=MONO,
-                font_size=10.5,
-                fill=RED if item.was_refused or wrong else "#44505e",
-            )
-        )
+        weight, ink = "500" if item.is_call else "400", RED if item.was_refused or wrong else "#44505e"
+        self.say(begin, row + 14.5, said, title, font_family=MONO, font_size=11, font_weight=weight)
+        end: Attributes = {"text_anchor": "end", "font_family": MONO, "font_size": 10.5, "fill": ink}
+        self.say(self.text_x + self.call_width, row + 14.5, result, title, **end)
         if line.word == "fault":
             self.fault(item, row, title)
 
@@ -441,32 +349,15 @@ class Picture:
             return
         x, y = x + self.map_x, row + ROW / 2 - 2
         colour = RED if item.was_refused else thread_colour(item.line.thread)
-        self.out.append(
-            path(
-                f"M{number(self.text_x + self.call_width + 5)} {number(y)}H{number(x - 6)}",
-                stroke=colour,
-                stroke_width=1.1,
-                stroke_dasharray="2 3",
-                opacity=0.75,
-                fill="none",
-            )
-        )
+        dotted: Attributes = {"stroke_width": 1.1, "stroke_dasharray": "2 3", "opacity": 0.75, "fill": "none"}
+        front = number(self.text_x + self.call_width + 5)
+        self.line(f"M{front} {number(y)}H{number(x - 6)}", stroke=colour, **dotted)
         if item.was_refused:
-            self.out.append(
-                path(
-                    f"M{number(x - 4)} {number(y - 4)}l8 8m0 -8l-8 8", title, stroke=RED, stroke_width=2.2, fill="none"
-                )
-            )
+            cross = f"M{number(x - 4)} {number(y - 4)}l8 8m0 -8l-8 8"
+            self.line(cross, title, stroke=RED, stroke_width=2.2, fill="none")
         else:
-            self.out.append(
-                path(
-                    f"M{number(x - 6)} {number(y - 4.5)}l8 4.5l-8 4.5z",
-                    title,
-                    fill=colour,
-                    stroke="#fff",
-                    stroke_width=0.8,
-                )
-            )
+            arrow = f"M{number(x - 6)} {number(y - 4.5)}l8 4.5l-8 4.5z"
+            self.line(arrow, title, fill=colour, stroke="#fff", stroke_width=0.8)
 
 
 def legend(runs: list[Run]) -> tuple[list[str], int]:

@@ -1,5 +1,4 @@
 """A run that is to be drawn: what a trace asks for, what an output says of it, and what is right, version by version."""
-from __future__ import annotations
 
 import re
 from collections.abc import Iterator

@@ -1,5 +1,4 @@
 """Elements of a picture as an SVG, on a white ground: what draw and chart share."""
-from __future__ import annotations
 
 import html
 from typing import Any

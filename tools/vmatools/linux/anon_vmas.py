@@ -1,5 +1,4 @@
 """What a write to private memory leaves in a VMA: mm/rmap.c and mm/vma.c."""
-from __future__ import annotations
 
 from typing import Optional
 

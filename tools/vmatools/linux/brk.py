@@ -1,5 +1,4 @@
 """brk: mm/mmap.c, and do_brk_flags of mm/vma.c."""
-from __future__ import annotations
 
 from ..traces import PAGE
 from .areas import GUARD, VM_ACCOUNT, VM_MAY, VM_READ, VM_WRITE, NotModelled, Refusal, Vma, pages_of

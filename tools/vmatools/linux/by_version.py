@@ -2,7 +2,6 @@
 
 A row is a trace of examples/kernel-rows.txt, a directed one of suite/vectors, or a case of the suite in which versions differ.
 """
-from __future__ import annotations
 
 import re
 from collections.abc import Iterator, Sequence

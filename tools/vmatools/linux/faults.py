@@ -1,5 +1,4 @@
 """Page faults: arch/x86/mm/fault.c, and expand_downwards of mm/vma.c."""
-from __future__ import annotations
 
 from ..traces import PAGE
 from .areas import (

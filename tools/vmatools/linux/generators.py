@@ -4,7 +4,6 @@
 stay and second mappings, places of 2 MiB, too much memory, stacks, seals and forks. `written` has few pages, mostly written,
 split, moved away and back; `sealed` has many seals. With `-limit` there is a limit of few VMAs.
 """
-from __future__ import annotations
 
 import random
 from collections.abc import Callable, Sequence

@@ -1,5 +1,4 @@
 """Holds the model to a kernel that runs: what is equal, and where the first difference of each other trace is."""
-from __future__ import annotations
 
 from dataclasses import dataclass, field
 from typing import NamedTuple, Optional

@@ -1,5 +1,4 @@
 """Which VMAs join, and how: mm/vma.c."""
-from __future__ import annotations
 
 from typing import Optional
 

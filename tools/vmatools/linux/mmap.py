@@ -1,5 +1,4 @@
 """mmap: do_mmap of mm/mmap.c, and mmap_region of mm/vma.c."""
-from __future__ import annotations
 
 from typing import Optional
 

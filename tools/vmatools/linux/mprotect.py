@@ -1,5 +1,4 @@
 """mprotect, VMA by VMA: mm/mprotect.c."""
-from __future__ import annotations
 
 from ..traces import PAGE
 from .areas import (

@@ -1,5 +1,4 @@
 """mremap: mm/mremap.c."""
-from __future__ import annotations
 
 from typing import NamedTuple, Optional
 

@@ -1,5 +1,4 @@
 """mseal, VMA by VMA: mm/mseal.c."""
-from __future__ import annotations
 
 from ..traces import PAGE
 from .areas import VM_SEALED, WORD, NotModelled, Refusal, Vma, pages_of

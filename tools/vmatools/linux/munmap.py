@@ -1,5 +1,4 @@
 """munmap: mm/vma.c."""
-from __future__ import annotations
 
 from collections.abc import Sequence
 

@@ -3,7 +3,6 @@
 It has a part for each answer, with a line `==` between two. A part begins with comments: the row of docs/KERNEL.md, and each
 kernel that answered so, by its version and all its settings. A part without an answer says that any is right.
 """
-from __future__ import annotations
 
 import re
 from collections.abc import Iterable

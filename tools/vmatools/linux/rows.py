@@ -3,7 +3,6 @@ several have in common.
 
 Both answers are there, as the two models give them. So a row is named only for an answer that Linux gives.
 """
-from __future__ import annotations
 
 from collections.abc import Callable, Sequence
 from typing import NamedTuple, Optional

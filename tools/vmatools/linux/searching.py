@@ -3,7 +3,6 @@
 A search goes over candidates. From above, room may end at the top, or where a VMA keeps its guard; from below it may begin
 at a third of user memory, or where a VMA ends.
 """
-from __future__ import annotations
 
 from typing import Optional
 

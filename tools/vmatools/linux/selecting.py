@@ -1,5 +1,4 @@
 """The traces of the recorded vectors: drawn, and chosen where two versions answer otherwise."""
-from __future__ import annotations
 
 from collections import Counter
 from collections.abc import Iterator

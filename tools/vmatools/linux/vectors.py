@@ -1,5 +1,4 @@
 """What kernels answered to traces, recorded: a file for each version, packed."""
-from __future__ import annotations
 
 import gzip
 import re

@@ -1,9 +1,10 @@
 """Which rules each version of Linux has: the table versions.tsv."""
-from __future__ import annotations
 
 from dataclasses import dataclass, fields
 from functools import lru_cache
 from pathlib import Path
+
+from ..console import Failure
 
 TABLE = Path(__file__).with_name("versions.tsv")
 TEXTS = 4  # the columns that stand before those of the versions
@@ -31,7 +32,7 @@ class Rules:
     loses_written: bool
 
 
-class WrongOracle(ValueError):
+class WrongOracle(Failure, ValueError):
     """A word that names no version of Linux, or no setting."""
 
 

@@ -2,7 +2,6 @@
 
 They are written from the section "Generated traces" of docs/TRACE.md alone, and have nothing of the program's code.
 """
-from __future__ import annotations
 
 from ..traces import PAGE
 

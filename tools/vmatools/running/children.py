@@ -1,6 +1,5 @@
 """Processes that a tool starts, each in a session of its own. They end where the tool ends, by whatever, and so does what they
 have started themselves."""
-from __future__ import annotations
 
 import contextlib
 import os

@@ -5,7 +5,6 @@ where one has ended. At its end, which is the tool's, all processes of the sessi
 have started in sessions of their own. So are those that have the pipe open which the one argument names: a process has it from
 its first moment, and the tool may end before it has written `+PID`.
 """
-from __future__ import annotations
 
 import contextlib
 import os

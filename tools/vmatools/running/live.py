@@ -1,7 +1,7 @@
 """Traces for diltzekun-live, one after the other in one process: what it answers, in the order in which `serial` prints it."""
-from __future__ import annotations
 
 import re
+from collections.abc import Sequence
 
 from ..comparing.conformance import CANNOT_RUN
 from ..systems.batch import Adapter, Answer, text_of
@@ -58,22 +58,29 @@ def answer_of(output: str) -> Answer:
     return Answer("", BAD_TRACE, bad[0], True)
 
 
+def refusal(text: bytes) -> str:
+    """Of a text that a session takes otherwise than `serial`, why that refuses it."""
+    own = OWN_LINE.search(text) if b"new" in text or b"query" in text else None
+    if own is None and text.endswith(b"\n"):
+        return ""
+    line = text.count(b"\n", 0, own.start()) + 1 if own else text.count(b"\n") + 1
+    return f"line {line}: no line of a trace is so"
+
+
 class LiveAdapter(Adapter):
     """A session with diltzekun-live, in which each trace has an address space of its own."""
 
     GRACE = 0.0
 
-    def run(self, text: bytes, seconds: float) -> Answer:
-        own = OWN_LINE.search(text)
-        if own or not text.endswith(b"\n"):
-            line = text.count(b"\n", 0, own.start()) + 1 if own else text.count(b"\n") + 1
-            return Answer("", BAD_TRACE, f"line {line}: no line of a trace is so", True)
-        return super().run(text, seconds)
+    def run_all(self, texts: Sequence[bytes], seconds: float) -> list[Answer]:
+        refused = next((place for place, text in enumerate(texts) if refusal(text)), len(texts))
+        return super().run_all(texts[:refused], seconds) if refused else [Answer("", BAD_TRACE, refusal(texts[0]), True)]
 
-    def request(self, text: bytes, seconds: float) -> bytes:
+    def request(self, number: int, text: bytes, seconds: float) -> bytes:
         return text + NEW + MARK
 
-    def answered(self, data: bytearray) -> Answer | None:
-        if data != MARKED and not data.endswith(b"\n" + MARKED):
-            return None
-        return answer_of(text_of(data[: -len(MARKED)]))
+    def mark(self, number: int) -> bytes:
+        return MARKED
+
+    def answered(self, data: bytes, last: bytes) -> Answer:
+        return answer_of(text_of(data))

@@ -1,5 +1,4 @@
 """Programs that are run: the proved one, which may be missing, and any other, which may crash, hang or write on."""
-from __future__ import annotations
 
 import argparse
 import errno
@@ -121,6 +120,12 @@ def find_built(given: str | os.PathLike[str] | None = None, verbose: bool = Fals
     """The path of the program alone: no model stands in for it."""
     place, source = PROGRAM.place(given)
     return find(DEFAULT_PROGRAM if source == "the model" else place, verbose)
+
+
+def say_unbuilt() -> None:
+    """Says that what is right is the model's word, where the program isn't built."""
+    if Path(PROGRAM.place()[0]) == PROGRAM.model:
+        say_once(NOT_BUILT)
 
 
 @functools.cache

@@ -1,5 +1,4 @@
 """Lists of areas: a saved /proc/PID/maps, and the file in which `vma record` keeps those of each program."""
-from __future__ import annotations
 
 import os
 import re

@@ -1,6 +1,5 @@
 """An order of calls that ran at once, found without tries: what makes room is done late, and all else as soon as it answers
 as the kernel did."""
-from __future__ import annotations
 
 import bisect
 from collections.abc import Iterator

@@ -1,5 +1,4 @@
 """What a log says of files: what each descriptor was opened for, and what is known of it."""
-from __future__ import annotations
 
 import os
 import re

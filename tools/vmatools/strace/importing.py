@@ -18,7 +18,6 @@ the process.
 
 Exit status: 0 if a trace was written, 1 if the log has no call for it, 2 on wrong use, or if a file can't be read.
 """
-from __future__ import annotations
 
 import argparse
 import sys

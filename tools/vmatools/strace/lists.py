@@ -1,5 +1,4 @@
 """Compares the list of areas that a run leaves with the one that the kernel had, page by page."""
-from __future__ import annotations
 
 import bisect
 from collections.abc import Iterator

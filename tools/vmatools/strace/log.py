@@ -1,5 +1,4 @@
 """What strace wrote, line by line: calls joined where others come between, the threads that ended, and signals."""
-from __future__ import annotations
 
 import errno
 import re

@@ -1,5 +1,4 @@
 """The order of calls of several threads that ran at once, of which a log says only when they began and returned."""
-from __future__ import annotations
 
 from collections.abc import Iterator
 from typing import NamedTuple

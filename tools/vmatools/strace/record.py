@@ -22,7 +22,6 @@ filter, programs with a set-user-ID bit have no more rights than you.
 Exit status: the command's, or 128 plus the number of the signal that ended it; 125 if strace isn't there or may not trace,
 if what it keeps can't be written, and on wrong use; 127 if the command isn't there.
 """
-from __future__ import annotations
 
 import argparse
 import ctypes
@@ -152,25 +151,8 @@ def traced(child: int, log: str) -> Tracer:
     # The child stops by a signal of its own, so that it waits for strace.
     LIBC.ptrace(PTRACE_DETACH, child, None, signal.SIGSTOP)
     os.waitpid(child, os.WUNTRACED)
-    tracer = Tracer(
-        [
-            "strace",
-            "-f",
-            "-qq",
-            "-y",
-            "-A",
-            "-o",
-            log,
-            "-e",
-            f"trace={TRACED}",
-            "-e",
-            f"abbrev=!{IN_FULL}",
-            "-e",
-            "signal=all",
-            "-p",
-            str(child),
-        ]
-    )
+    kept = ["-e", f"trace={TRACED}", "-e", f"abbrev=!{IN_FULL}", "-e", "signal=all"]
+    tracer = Tracer(["strace", "-f", "-qq", "-y", "-A", "-o", log, *kept, "-p", str(child)])
     until = time.monotonic() + SECONDS
     while tracer.process.poll() is None and time.monotonic() < until:
         with open(f"/proc/{child}/status") as status:
@@ -178,15 +160,10 @@ def traced(child: int, log: str) -> Tracer:
                 return tracer
         time.sleep(0.005)
     os.kill(child, signal.SIGKILL)
-    has_ended = tracer.process.poll() is not None
-    if has_ended:
+    if tracer.process.poll() is not None:
         tracer.end()
-    fail(
-        125,
-        "strace does not trace the command: what it says stands above"
-        if has_ended
-        else f"strace has not begun to trace within {SECONDS} seconds",
-    )
+        fail(125, "strace does not trace the command: what it says stands above")
+    fail(125, f"strace has not begun to trace within {SECONDS} seconds")
 
 
 def waited(child: int) -> int:

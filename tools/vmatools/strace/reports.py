@@ -1,5 +1,4 @@
 """What `vma import` says on standard error: what a trace has, and what was left out."""
-from __future__ import annotations
 
 from collections import Counter
 

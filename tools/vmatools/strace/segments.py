@@ -1,5 +1,4 @@
 """System V shared memory in a log: shmget makes a segment, shmat maps it as the kernel maps a file, and shmdt unmaps it."""
-from __future__ import annotations
 
 import re
 

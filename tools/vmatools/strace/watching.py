@@ -3,7 +3,6 @@
 A seccomp filter that the command inherits to all that it starts stops these calls, and no others, until the list is
 read: execve, exit_group, and those that a program makes first, as brk(NULL). strace goes on beside it.
 """
-from __future__ import annotations
 
 import ctypes
 import errno

@@ -1,14 +1,12 @@
 """A trace in the making: its settings, its operations, what the kernel answered, and what was left out."""
-from __future__ import annotations
 
 import os
 import re
 from collections import Counter
-from collections.abc import Iterator
+from collections.abc import Callable, Iterator
 from dataclasses import dataclass
 
 from ..console import Failure
-from ..model import Space as Model
 from ..traces import LIMITS, MAP, MREMAP, PAGE, PROT
 from .areas import OF_KERNEL, USER_END, Area
 from .files import Identity, Opening, descriptor_of
@@ -17,16 +15,7 @@ from .order import is_aligned, is_moved, is_moved_aligned, is_placed
 from .processes import CALLS, Change, Space
 
 DEFAULT_TOP = 0x7FFFF7FFF000
-ERRORS = {
-    "EINVAL",
-    "ENOMEM",
-    "EBADF",
-    "EACCES",
-    "EEXIST",
-    "EPERM",
-    "EOVERFLOW",
-    "EFAULT",
-}  # those that the program answers
+ERRORS = set("EINVAL ENOMEM EBADF EACCES EEXIST EPERM EOVERFLOW EFAULT".split())  # those that the program answers
 MAP_TYPE, MAP_SHARED_VALIDATE, MAP_DROPPABLE = 0xF, 0x3, 0x8
 PLACING = {"MAP_32BIT", "MAP_HUGETLB"}  # flags without a word, by which the kernel looks for room elsewhere
 MAP_BITS = {
@@ -178,9 +167,7 @@ class Trace:
         self.different: int | None = None  # how many calls no order explains
         self.is_bounded = False
         self.taken_off, self.left_out = Counter[str](), Counter[str]()
-        self.notes: list[str] = []
         self.held: list[str] = []  # areas of the kernel's whose place is held by plain memory
-        self.model: Model | None = None  # after all calls, as the kernel did them
 
     def operations(self) -> Iterator[Operation]:
         yield from self.of_maps
@@ -260,14 +247,7 @@ class Trace:
         call = change.call
         try:
             answer = answer_of(call)
-            writer = {
-                "mmap": self.mmap,
-                "munmap": self.munmap,
-                "mprotect": self.mprotect,
-                "mremap": self.mremap,
-                "brk": self.brk,
-                "mseal": self.mseal,
-            }[CALLS[call.name]]
+            writer: Callable[[Change, str], str] = getattr(self, CALLS[call.name])
             return writer(change, answer), answer
         except NoLine as why:
             self.left_out[str(why)] += 1

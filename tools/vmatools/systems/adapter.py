@@ -1,5 +1,4 @@
 """Answers traces with what a system answers."""
-from __future__ import annotations
 
 import contextlib
 import os

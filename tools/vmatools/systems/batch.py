@@ -5,9 +5,9 @@ output, and a line `end N`; or `end N STATUS WHY` where it cannot run the trace.
 `has WORD..`, as capabilities.py says. N counts the traces. SECONDS is how
 long the trace may take: an adapter that can end its system earlier does so, and answers `hung`.
 """
-from __future__ import annotations
 
 import contextlib
+import os
 import select
 import signal
 import subprocess
@@ -20,12 +20,13 @@ from typing import IO
 
 from .. import console
 from ..running import children
-from ..running.program import busy, why_not_run
+from ..running.program import busy, run, why_not_run
 from .capabilities import PROBE, Capabilities, split
-from .running import ended, read_some, write_all
+from .running import ended, read_some
 
 MOST_OUTPUT = 64 << 20
 END_SECONDS = 2.0  # for an adapter to end by itself, with what it started
+FIRST_SECONDS = 10.0  # for a command to say what it has
 DOES_NOT_END = "does not end"
 
 
@@ -51,25 +52,32 @@ class Adapter:
         self.has: Capabilities | None = None  # as it says before its first answer, if it does
 
     def run(self, text: bytes, seconds: float) -> Answer:
-        process = self.process or self.begin()
-        self.number += 1
-        answer = self.exchange(process, self.request(text, seconds), time.monotonic() + seconds + self.GRACE)
-        if answer.fault and not answer.is_told:
+        return self.run_all([text], seconds)[0]
+
+    def run_all(self, texts: Sequence[bytes], seconds: float) -> list[Answer]:
+        """What comes of some traces, which are sent at once: of all up to one at which the process fails."""
+        process, first = self.process or self.begin(), self.number + 1
+        self.number += len(texts)
+        numbers = range(first, self.number + 1)
+        sent = b"".join(self.request(number, text, seconds) for number, text in zip(numbers, texts))
+        answers = self.exchange(process, sent, [self.mark(number) for number in numbers], seconds + self.GRACE)
+        if answers[-1].fault and not answers[-1].is_told:
             self.close()
-        return answer
+        return answers
 
-    def request(self, text: bytes, seconds: float) -> bytes:
+    def request(self, number: int, text: bytes, seconds: float) -> bytes:
         """What the process is sent for a trace."""
-        return b"trace %d %g\n%send %d\n" % (self.number, seconds, text, self.number)
+        return b"trace %d %g\n%send %d\n" % (number, seconds, text, number)
 
-    def answered(self, data: bytearray) -> Answer | None:
-        """The answer in what came so far, which ends with a whole line; nothing where more is to come."""
-        last = data.rfind(b"\n", 0, len(data) - 1) + 1
-        if not data.startswith(b"end %d" % self.number, last):
-            return None
-        has, output = split(data[:last])
+    def mark(self, number: int) -> bytes:
+        """How the last line of an answer begins."""
+        return b"end %d" % number
+
+    def answered(self, data: bytes, last: bytes) -> Answer:
+        """An answer, by what stands above its last line, and that line."""
+        has, output = split(data)
         self.has = has or self.has
-        return answer_of(output, data[last:].decode("utf-8", "replace").split(maxsplit=3))
+        return answer_of(output, last.decode("utf-8", "replace").split(maxsplit=3))
 
     def begin(self) -> subprocess.Popen[bytes]:
         errors = tempfile.TemporaryFile()
@@ -78,6 +86,8 @@ class Adapter:
         except OSError as error:
             errors.close()
             raise console.Failure(why_not_run(self.command[0], error)) from None
+        assert self.process.stdin is not None
+        os.set_blocking(self.process.stdin.fileno(), False)
         self.errors = errors
         return self.process
 
@@ -88,24 +98,33 @@ class Adapter:
         self.errors.seek(max(self.errors.seek(0, 2) - 10_000, 0))
         return self.errors.read().decode("utf-8", "replace")
 
-    def exchange(self, process: subprocess.Popen[bytes], request: bytes, end: float) -> Answer:
+    def exchange(self, process: subprocess.Popen[bytes], sent: bytes, marks: list[bytes], seconds: float) -> list[Answer]:
+        """The answers with these marks, each of which has so many seconds. The process may write before it has read all."""
         assert process.stdin is not None and process.stdout is not None
-        if len(request) > select.PIPE_BUF:  # the adapter may write before it has read all
-            threading.Thread(target=send, args=(process.stdin.fileno(), request), daemon=True).start()
-        else:
-            send(process.stdin.fileno(), request)
-        data = bytearray()
-        while True:
-            ready, _, _ = select.select([process.stdout], [], [], max(end - time.monotonic(), 0))
+        left, data, at, answers = memoryview(sent), bytearray(b"\n"), 1, list[Answer]()
+        end = time.monotonic() + seconds
+        while len(answers) < len(marks):
+            wanted = [process.stdin] if left else []
+            ready, free, _ = select.select([process.stdout], wanted, [], max(end - time.monotonic(), 0))
+            left = left[written(process.stdin.fileno(), left) :] if free else left
             piece = read_some(process.stdout.fileno()) if ready else b""
+            since = len(data)
             data += piece
-            if not ready or len(data) > MOST_OUTPUT:
-                return Answer(text_of(data), DOES_NOT_END if not ready else "writes on and on", self.said())
-            answer = self.answered(data) if piece and data.endswith(b"\n") else None
-            if answer:
-                return answer
-            if not piece:
-                return Answer(text_of(data), fault_of(ended(process)), self.said())
+            while len(answers) < len(marks) and (found := lines_of(data, at, since, marks[len(answers)])):
+                answers.append(self.answered(bytes(data[at : found[0]]), bytes(data[slice(*found)])))
+                at, end = found[1], time.monotonic() + seconds
+            fault = self.fault(process, bool(ready), bool(free), piece, len(data) - at) if len(answers) < len(marks) else None
+            if fault:
+                return [*answers, Answer(text_of(data[at:]), fault, self.said())]
+        return answers
+
+    def fault(self, process: subprocess.Popen[bytes], is_ready: bool, is_free: bool, piece: bytes, size: int) -> str | None:
+        """How the process fails, by what came of it just now, and by how much came of a trace."""
+        if size > MOST_OUTPUT:
+            return "writes on and on"
+        if is_ready and not piece:
+            return fault_of(ended(process))
+        return None if is_ready or is_free else DOES_NOT_END
 
     def end_input(self) -> None:
         """Tells the process that no more traces come."""
@@ -130,10 +149,22 @@ class Adapter:
         self.process = self.errors = None
 
 
-def send(descriptor: int, request: bytes) -> None:
-    """Hands a request on. Where the process is gone, its output tells."""
-    with contextlib.suppress(OSError):
-        write_all(descriptor, request)
+def written(descriptor: int, data: memoryview) -> int:
+    """How much of it a pipe takes now: all where the process is gone, as its output tells."""
+    try:
+        return os.write(descriptor, data)
+    except BlockingIOError:
+        return 0
+    except OSError:
+        return len(data)
+
+
+def lines_of(data: bytearray, at: int, since: int, mark: bytes) -> tuple[int, int] | None:
+    """Where the last line of an answer begins and ends, which begins with a mark, in what is new `since` then."""
+    begin = min(data.rfind(b"\n", 0, since), since - len(mark) - 1)
+    last = data.find(b"\n" + mark, max(begin, at - 1)) + 1
+    newline = data.find(b"\n", last + len(mark) - 1) if last else -1
+    return None if newline < 0 else (last, newline + 1)
 
 
 def text_of(data: bytes | bytearray) -> str:
@@ -161,10 +192,13 @@ class Adapters:
         self.command, self.kind, self.idle, self.lock = command, kind, list[Adapter](), threading.Lock()
 
     def run(self, text: bytes, seconds: float) -> Answer:
+        return self.run_all([text], seconds)[0]
+
+    def run_all(self, texts: Sequence[bytes], seconds: float) -> list[Answer]:
         with self.lock:
             adapter = self.idle.pop() if self.idle else self.kind(self.command)
         try:
-            return adapter.run(text, seconds)
+            return adapter.run_all(texts, seconds)
         finally:
             with self.lock:
                 self.idle.append(adapter)
@@ -176,7 +210,7 @@ class Adapters:
         if answer.is_told:
             self.idle.append(adapter)
             return adapter.has
-        sent = " / ".join(adapter.request(PROBE, seconds).decode().splitlines())
+        sent = " / ".join(adapter.request(adapter.number, PROBE, seconds).decode().splitlines())
         came = f"`{console.printable(answer.output)}`" if answer.output else "nothing"
         last = answer.message.strip().splitlines()[-1:]
         said = f", with `{console.printable(last[0])}` on standard error" if last else ""
@@ -194,6 +228,13 @@ class Adapters:
                 adapter.end_input()
             for adapter in self.idle:
                 adapter.close(max(end - time.monotonic(), 0))
+
+
+def capabilities_of(command: Sequence[str], seconds: float) -> Capabilities | None:
+    """What a command that is run for each trace says that it has, where it answers many traces too and says so then."""
+    seconds = min(seconds, FIRST_SECONDS)
+    asked = run(command, b"trace 1 %g\n%send 1\n" % (seconds, PROBE), seconds)
+    return split(asked.output.encode())[0]
 
 
 @dataclass(frozen=True)

@@ -1,5 +1,4 @@
 """What `vma compare` needs for a system that is not empty, or that starts slowly: its words, and both sides made ready."""
-from __future__ import annotations
 
 import argparse
 import re
@@ -15,7 +14,8 @@ from ..comparing.conformance import CANNOT_RUN
 from ..running import program
 from ..running.live import LiveAdapter
 from ..traces import PAGE, Trace, read_trace
-from .batch import Adapters
+from .batch import FIRST_SECONDS, Adapters
+from .capabilities import Capabilities
 from .known import KNOWN, MACHINE_SECONDS, WINDOW, system_of
 from .linux_of import oracle_of
 from .measuring import missing
@@ -23,7 +23,6 @@ from .places import Window
 from .words import window_of
 
 MACHINE_KIND_SECONDS = 120.0  # for making the trace of a kind small, in a machine that has to be booted where it dies
-FIRST_SECONDS = 10.0  # for an adapter to answer a trace without lines
 ADDRESS = re.compile(r"= 0x([0-9a-f]+)$", re.MULTILINE)
 OUTSIDE = "a place outside"
 HEAP_NAME = re.compile(r" +\[heap\]$", re.MULTILINE)
@@ -101,7 +100,7 @@ def prepared(options: argparse.Namespace, settings: Settings, sides: Sides) -> I
             sides.adapters = Adapters(sides.command)
             stack.callback(sides.adapters.close)
             if not options.system:
-                take_capabilities(settings, sides, sides.adapters)
+                take_capabilities(settings, sides, sides.adapters.capabilities(max(settings.seconds, FIRST_SECONDS)))
         if options.live and not options.threads:
             sides.live = Adapters([options.live], LiveAdapter)
             stack.callback(sides.live.close)
@@ -115,9 +114,8 @@ def prepared(options: argparse.Namespace, settings: Settings, sides: Sides) -> I
         yield
 
 
-def take_capabilities(settings: Settings, sides: Sides, adapters: Adapters) -> None:
+def take_capabilities(settings: Settings, sides: Sides, has: Capabilities | None) -> None:
     """Makes traces of what COMMAND says that it has, if it says so."""
-    has = adapters.capabilities(max(settings.seconds, FIRST_SECONDS))
     if has is None or not has.missing:
         return
     console.say(f"COMMAND has no {', '.join(has.missing)}: traces are made without")

@@ -1,5 +1,4 @@
 """Compiles the runner, for a processor and an address, into a cache."""
-from __future__ import annotations
 
 import hashlib
 import os

@@ -3,7 +3,6 @@
 A word is an operation, a setting, `wide` for addresses of 57 bits, or `-FLAG` for a flag that it has not. Traces are then
 made of these alone. An adapter need not say so.
 """
-from __future__ import annotations
 
 from dataclasses import dataclass
 

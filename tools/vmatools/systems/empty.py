@@ -1,5 +1,4 @@
 """The empty space of a Linux kernel: what of a trace can be had there."""
-from __future__ import annotations
 
 import resource
 from dataclasses import dataclass

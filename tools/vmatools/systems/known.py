@@ -1,5 +1,4 @@
 """The systems that are known: how the runner gets into each, and where it may work there."""
-from __future__ import annotations
 
 import platform
 import shlex

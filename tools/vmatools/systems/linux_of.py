@@ -1,5 +1,4 @@
 """Linux as a known system has it: its version, the settings of its machine, and the process that makes the calls."""
-from __future__ import annotations
 
 from dataclasses import replace
 

@@ -1,5 +1,4 @@
 """Machines of their own that serve scripts over a serial line: user-mode Linux, and a kernel under qemu-system."""
-from __future__ import annotations
 
 import glob
 import gzip

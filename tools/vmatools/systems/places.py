@@ -1,5 +1,4 @@
 """Where a trace may act in a system: in an empty space, or in a window of addresses beside the system's own memory."""
-from __future__ import annotations
 
 from collections.abc import Iterator
 from dataclasses import dataclass

@@ -1,5 +1,4 @@
 """The rows of docs/KERNEL.md: a trace of a few lines for each, what the program answers, and what a kernel does."""
-from __future__ import annotations
 
 import difflib
 import re

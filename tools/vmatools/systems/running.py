@@ -1,5 +1,4 @@
 """Runs the runner: once for each script, or as a process that serves many."""
-from __future__ import annotations
 
 import contextlib
 import ctypes

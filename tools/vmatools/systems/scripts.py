@@ -1,5 +1,4 @@
 """What the runner reads: where it works, the files of a trace and its operations. runner.c has the same structures."""
-from __future__ import annotations
 
 import struct
 from collections.abc import Mapping

@@ -1,5 +1,4 @@
 """Answers that an empty system would give otherwise: places that were searched beside memory of the system's own."""
-from __future__ import annotations
 
 from collections.abc import Sequence
 

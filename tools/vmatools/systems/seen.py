@@ -1,5 +1,4 @@
 """The traces of examples/systems: what a version of a system was seen to answer otherwise than Linux and the program."""
-from __future__ import annotations
 
 import re
 from collections.abc import Iterator, Sequence

@@ -1,5 +1,4 @@
 """The output of a trace, in the form of `serial`, from the lines that the runner wrote."""
-from __future__ import annotations
 
 import errno
 import re

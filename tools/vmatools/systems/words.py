@@ -1,5 +1,4 @@
 """Words of a command line about systems."""
-from __future__ import annotations
 
 import argparse
 import re

@@ -1,5 +1,4 @@
 """Says in a sentence what is wrong with the first bad line of a trace, and which word it is."""
-from __future__ import annotations
 
 import difflib
 import re
@@ -33,21 +32,9 @@ OTHER_NAMES = {"MAP_ANON": "MAP_ANONYMOUS", "PROT_RDWR": "PROT_READ|PROT_WRITE",
 # Flags that Linux has and a trace may not name, each with what may stand in its place.
 LEAVE_OUT = "leave it out if nothing depends on it"
 NOT_NAMED = dict.fromkeys(
-    (
-        "MAP_LOCKED",
-        "MAP_HUGETLB",
-        "MAP_32BIT",
-        "MAP_NONBLOCK",
-        "MAP_SYNC",
-        "MAP_UNINITIALIZED",
-        "MAP_FILE",
-        "MAP_DROPPABLE",
-        "PROT_SEM",
-        "PROT_GROWSDOWN",
-        "PROT_GROWSUP",
-    ),
-    LEAVE_OUT,
+    "MAP_LOCKED MAP_HUGETLB MAP_32BIT MAP_NONBLOCK MAP_SYNC MAP_UNINITIALIZED MAP_FILE MAP_DROPPABLE".split(), LEAVE_OUT
 )
+NOT_NAMED |= dict.fromkeys(("PROT_SEM", "PROT_GROWSDOWN", "PROT_GROWSUP"), LEAVE_OUT)
 NOT_NAMED["MAP_SHARED_VALIDATE"] = "for a file MAP_SHARED does the same, and with MAP_ANONYMOUS Linux answers EINVAL"
 OTHER_OPERATIONS = {
     "mmap2": "mmap",

@@ -2,7 +2,6 @@
 
 It is written from docs/TRACE.md and that page alone, and has nothing of the program's code.
 """
-from __future__ import annotations
 
 import re
 import sys

@@ -3,7 +3,6 @@
 It is written from docs/SCRIPTS.md and docs/MODEL.md alone, but for the words of a row, which are those of the crate mm_types, and
 has nothing of the program's code.
 """
-from __future__ import annotations
 
 from collections.abc import Callable
 from typing import NamedTuple

@@ -3,7 +3,6 @@
 It is written from docs/diltzekun-live.1 alone, and has nothing of the program's code. `vma live --as` has the calls of a session
 answered by a model of Linux.
 """
-from __future__ import annotations
 
 import os
 import sys
