@@ -1,7 +1,6 @@
 """Makes the statements of crates/linux_rules from suite/vectors, those of crates/linux_beside from examples/kernel-rows.txt, and
 docs/linux; or checks that they are what would be made, and that the versions are those of the table. A row that is new is no
 theorem until the statements are made again."""
-from __future__ import annotations
 
 import argparse
 import sys

@@ -1,7 +1,6 @@
 """Which recorded traces become statements: of each version those that tell most, by the planted wrong rules that they
 notice, what is answered, and which other versions answer otherwise; and one for each such rule that these don't notice. They
 stand in the folder chosen, a file a version."""
-from __future__ import annotations
 
 import contextlib
 import gzip

@@ -3,7 +3,6 @@
 It reads the part of antt that they are written in: equations over records, options, lists and numbers, with `if`, `let`,
 `λ`, `do` and `elim`. The prover is the judge; this tells beforehand which statements it will refuse.
 """
-from __future__ import annotations
 
 import re
 from collections.abc import Callable, Iterator

@@ -1,5 +1,4 @@
 """A page a version: the definitions as this version has them, with each switch resolved."""
-from __future__ import annotations
 
 import re
 from collections.abc import Mapping, Sequence

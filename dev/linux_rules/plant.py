@@ -4,7 +4,6 @@ another answer. For a rule that changes nothing it prints why.
 
 The definitions are evaluated in Python, since the prover would take hours.
 """
-from __future__ import annotations
 
 import argparse
 import sys

@@ -2,7 +2,6 @@
 planted.txt: the file and the version whose traces are tried, the rule that goes wrong, and the text before and after. A line
 with `=` says why one changes nothing: then no trace may notice it.
 """
-from __future__ import annotations
 
 import re
 from pathlib import Path

@@ -1,6 +1,5 @@
 """Plants wrong rules in the definitions, one at a time, and tells which recorded traces notice: those whose answers the
 definitions then compute otherwise. The definitions are evaluated in Python (evaluating.py), since the prover would take hours."""
-from __future__ import annotations
 
 from collections.abc import Callable, Sequence
 from functools import lru_cache, partial

@@ -1,5 +1,4 @@
 """What a kernel answered to a trace, step by step."""
-from __future__ import annotations
 
 from dataclasses import dataclass
 

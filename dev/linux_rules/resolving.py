@@ -1,5 +1,4 @@
 """A definition with the switches of a version resolved: `if kernel.rules.X then a else b` is `a` where the version has X."""
-from __future__ import annotations
 
 import re
 from collections.abc import Mapping

@@ -1,5 +1,4 @@
 """Rows of docs/KERNEL.md as theorems: what the profile answers and what Linux answers, by version, both computed."""
-from __future__ import annotations
 
 import contextlib
 import re
@@ -176,6 +175,8 @@ def files(top: Path, only: set[str] | None = None) -> dict[Path, str]:
     names = [name for name, _ in found]
     made = {CRATE / "src" / "rows.rt": contract(names)}
     made[CRATE / "proofs" / "rows" / "rows_are_computed" / "Answers.antt"] = law_answer(names)
+    for list_file in (CRATE / "specs/Lib.antt", CRATE / "proofs/Lib.antt"):
+        made[list_file] = statements.modules(top / list_file, names)
     for name, rows in found:
         made[CRATE / "specs" / f"{name}.antt"] = spec(top, name, rows)
         made[CRATE / "proofs" / f"{name}.antt"] = proof(top, name, rows)

@@ -1,5 +1,4 @@
 """Recorded traces as statements that the prover computes: the files Linux_VERSION of crates/linux_rules."""
-from __future__ import annotations
 
 import re
 from collections.abc import Iterable, Sequence
@@ -23,6 +22,7 @@ USES = [
 TOP, LIMIT = 0x7FFFF7FFF000, 65530
 VSYSCALL = {"none": "Absent", "xonly": "Xonly", "emulate": "Emulate"}
 WORDS = re.compile(r"[\w◌∷]+")
+MADE = re.compile(r"(?:pub )?mod (?:Linux_|Rows)[0-9]")  # a line of a module that is made
 
 
 def rules_name(version: str) -> str:
@@ -167,11 +167,22 @@ def law_answer(version: str) -> str:
     )
 
 
+def modules(file: Path, names: Iterable[str]) -> str:
+    """A crate's list of modules, in which these stand in place of those that were made before."""
+    lines = file.read_text(encoding="utf-8").splitlines()
+    is_made = [bool(MADE.match(line)) for line in lines]
+    place = is_made.index(True) if any(is_made) else len(lines)
+    kept = [line for line, made in zip(lines, is_made) if not made]
+    public = "pub " if file.parent.name == "specs" else ""
+    return "\n".join([*kept[:place], *(f"{public}mod {name}" for name in names), *kept[place:], ""])
+
+
 def files(top: Path, recorded: dict[str, Sequence[Recording]]) -> dict[Path, str]:
     """All files that are made, by their paths below the repository."""
     versions = list(recorded)
     made = {CRATE / "src" / "recorded.rt": contract(versions)}
-    made[CRATE / "proofs" / "Lib.antt"] = "".join(f"mod {module_name(each)}\n" for each in versions)
+    for list_file in (CRATE / "specs/Lib.antt", CRATE / "proofs/Lib.antt"):
+        made[list_file] = modules(top / list_file, map(module_name, versions))
     for each, recordings in recorded.items():
         folder = CRATE / "proofs" / "recorded" / f"{rules_name(each)}_is_as_recorded"
         made[CRATE / "specs" / f"{module_name(each)}.antt"] = spec(each, recordings, top)

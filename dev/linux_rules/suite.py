@@ -1,5 +1,4 @@
 """The cases of suite/ with what kernels were recorded to answer: NAME.linux, where it isn't what NAME.out has."""
-from __future__ import annotations
 
 from collections.abc import Iterator
 from pathlib import Path

@@ -1,5 +1,4 @@
 """What stands in a trace and in the answers to it, as terms of the definitions."""
-from __future__ import annotations
 
 import errno
 import re

@@ -1,5 +1,4 @@
 """The rules of each version, as crates/linux_rules/specs/Versions.antt has them, compared with the table of versions."""
-from __future__ import annotations
 
 import re
 from collections.abc import Iterator, Mapping

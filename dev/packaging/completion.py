@@ -1,50 +1,14 @@
 """Completion of vma for bash and zsh, made from its parsers: commands, their options, and the words that an option may have."""
-from __future__ import annotations
 
 import argparse
 from collections.abc import Iterator
+from pathlib import Path
 
 from vmatools import cli
 from .manual import filled
 
-BASH = """# bash completion of vma
-_vma() {{
-    local word=${{COMP_WORDS[COMP_CWORD]}} last=${{COMP_WORDS[COMP_CWORD-1]}} options=
-    if [ "$COMP_CWORD" = 1 ]; then
-        COMPREPLY=($(compgen -W "{commands} --help --version" -- "$word"))
-        return
-    fi
-    case "${{COMP_WORDS[1]}} $last" in
-{choices}
-    esac
-    case "${{COMP_WORDS[1]}}" in
-{options}
-    esac
-    if [[ $word == -* ]]; then
-        COMPREPLY=($(compgen -W "$options" -- "$word"))
-    else
-        COMPREPLY=($(compgen -f -- "$word"))
-    fi
-}}
-complete -o filenames -F _vma vma
-"""
-ZSH = """#compdef vma
-# zsh completion of vma
-_vma() {{
-    local -a commands
-    commands=(
-{commands}
-    )
-    if (( CURRENT == 2 )); then
-        _describe command commands
-        return
-    fi
-    case $words[2] in
-{options}
-    esac
-}}
-_vma "$@"
-"""
+# The scripts, in which the words in braces are filled in, and other braces stand twice.
+BASH, ZSH = (Path(__file__).with_name(name).read_text(encoding="utf-8") for name in ("vma.bash", "vma.zsh"))
 
 
 def actions_of(command: cli.Command) -> Iterator[argparse.Action]:

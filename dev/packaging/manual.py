@@ -1,5 +1,4 @@
 """The manual pages of vma and of its subcommands, made from their parsers, in the macros of man(7)."""
-from __future__ import annotations
 
 import argparse
 import re

@@ -5,7 +5,6 @@ may have none.
 
 Exit status: 0 if all has a comment, 1 if something has none, 2 on wrong use, or if OUT can't be written.
 """
-from __future__ import annotations
 
 import argparse
 import sys

@@ -1,5 +1,4 @@
 """Makes the tables of the calls of docs/MODEL.md: each row of the definitions with its comment, its test and its answer."""
-from __future__ import annotations
 
 import argparse
 import re

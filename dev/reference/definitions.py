@@ -1,13 +1,8 @@
 """Reads the definitions of a crate's `specs/`: each with the comment above it and its text."""
-from __future__ import annotations
 
-import re
 from dataclasses import dataclass
 from pathlib import Path
 
-HEAD = re.compile(
-    r"^(?:(?:abbrev|unfoldable|pub|record|data|opaque)\s+)*(?:(?:abbrev|unfoldable|record|data)\s+)?([^\s:(]+)"
-)
 BEGINS = ("pub ", "abbrev ", "unfoldable ", "record ", "data ", "opaque ")
 
 

@@ -1,5 +1,4 @@
 """Makes docs/HEADLINE.md: what the clause `output` of `replay` says, with every definition that it reaches."""
-from __future__ import annotations
 
 import argparse
 import functools

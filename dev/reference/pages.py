@@ -1,5 +1,4 @@
 """Writes the pages of the reference: one a crate, with an index of crates, and the list of what has no comment."""
-from __future__ import annotations
 
 import os
 import re

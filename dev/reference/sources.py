@@ -3,7 +3,6 @@
 The files are in the layout of `rt fmt`, so an item begins at its indentation and ends at a line with the closing brace of
 that indentation, and a clause begins a line of its own.
 """
-from __future__ import annotations
 
 import re
 from dataclasses import dataclass, field
@@ -43,11 +42,6 @@ class Item:
     is_law: bool = False
     # what contracts see of a type, where that is not the type itself
     seen_as: str = ""
-
-    @property
-    def short(self) -> str:
-        """The name without the type that it belongs to."""
-        return self.name.rsplit("::", 1)[-1]
 
 
 @dataclass(frozen=True)

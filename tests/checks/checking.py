@@ -3,7 +3,6 @@
 A check is a module with a function `check(options)`, which calls `passed` for each thing that is as it should be, `skipped` where
 the machine cannot try it, and `fail` at the first that is not. Words of its own come by `add_arguments`.
 """
-from __future__ import annotations
 
 import argparse
 import importlib
@@ -21,7 +20,7 @@ TOP = Path(__file__).resolve().parents[2]
 sys.dont_write_bytecode = True
 sys.path[:0] = [str(TOP / "tools"), str(TOP / "tests"), str(TOP)]
 from vmatools import console
-from vmatools.running import program
+from vmatools.running import children, program
 
 TOOL = Path(sys.argv[0]).stem
 LIVE = program.LIVE.default
@@ -127,10 +126,32 @@ def answer(
     return done, took
 
 
+def run_kept(command: Sequence[str], **more: Any) -> tuple[int, str]:
+    """The status of a command and what it says. It ends with the check, and so does what it has started."""
+    process = children.start(command, stdout=subprocess.PIPE, stderr=subprocess.STDOUT, **more)
+    try:
+        said = process.communicate()[0]
+    finally:
+        children.end(process)
+    return process.returncode, said.decode("utf-8", "replace")
+
+
 def used() -> float:
     """The processor time of all runs so far."""
     children = resource.getrusage(resource.RUSAGE_CHILDREN)
     return children.ru_utime + children.ru_stime
+
+
+def expect(
+    name: str, command: Words, seconds: int, status: int = 0, message: bytes = b"", output: bytes | None = None, **more: Any
+) -> tuple[Done, float]:
+    """A run that has to end with this status, this on standard error and, where it is told, this on standard output; what it
+    gives, and its processor time. `more` is of `answer`."""
+    done, took = answer(name, command, seconds, **more)
+    check_ended(name, done, status, message)
+    if output is not None:
+        compare(f"{name}, standard output", done.stdout or b"", output)
+    return done, took
 
 
 def check_ended(name: str, done: Done, status: int, message: bytes = b"") -> None:

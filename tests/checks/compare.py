@@ -3,7 +3,6 @@
 The wrong systems are those of tests/models. Each that has a name has to be found, and of some of those by rule most; the smallest
 trace has at most five lines below the header. Takes less than a minute; --runs 2000 takes longer.
 """
-from __future__ import annotations
 
 import argparse
 import contextlib

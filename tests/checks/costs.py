@@ -7,15 +7,14 @@ caller does. And the processor time of an input is compared with that of one of 
 each: it may take seven times as long, where linear work takes four to five and quadratic sixteen. A comparison that fails is
 made again.
 """
-from __future__ import annotations
 
 import os
 import subprocess
 import sys
-from collections.abc import Callable
+from collections.abc import Callable, Iterable
 from typing import Any, NamedTuple
 
-from checking import TOP, Done, Options, Words, answer, bytes_of, check_ended, fail, live_of, passed
+from checking import TOP, Done, Options, Words, answer, bytes_of, check_ended, expect, fail, live_of, passed
 
 MIB = 2**20
 PEAK = [sys.executable, "-IS", str(TOP / "tests/checks/peak.py")]
@@ -38,10 +37,15 @@ def place(area: int) -> int:
     return 0x10000000 + 8192 * area
 
 
+def mapped(areas: Iterable[int], thread: int = 0) -> list[str]:
+    """Lines that map a page each, at the places of these areas."""
+    return [f"{thread} mmap {place(area):#x} 4096 PROT_READ {ANONYMOUS} -1 0" for area in areas]
+
+
 def calls(count: int) -> list[str]:
     """Calls that map a page and unmap it again."""
-    both = (f"0 mmap {{0:#x}} 4096 PROT_READ {ANONYMOUS} -1 0", "0 munmap {0:#x} 4096")
-    return ["vmatrace 1", *(both[line % 2].format(place(line // 2 % 8)) for line in range(count))]
+    both = [(*mapped([area]), f"0 munmap {place(area):#x} 4096") for area in range(8)]
+    return ["vmatrace 1", *(both[line // 2 % 8][line % 2] for line in range(count))]
 
 
 def shared(count: int) -> list[str]:
@@ -57,65 +61,43 @@ def faults(count: int) -> list[str]:
 def leaving(count: int) -> list[str]:
     """A list of as many areas as it may have, which then leave in another order. Each call leaves rows of the tree."""
     half = count // 2
-    made = (f"0 mmap {place(area):#x} 4096 PROT_READ {ANONYMOUS} -1 0" for area in range(half))
-    return [
-        "vmatrace 1",
-        f"limit areas {half}",
-        *made,
-        *(f"0 munmap {place(area * 7919 % half):#x} 4096" for area in range(half)),
-    ]
+    gone = (f"0 munmap {place(area * 7919 % half):#x} 4096" for area in range(half))
+    return ["vmatrace 1", f"limit areas {half}", *mapped(range(half)), *gone]
 
 
 def moving(count: int) -> list[str]:
     """A page that moves from below many areas to above them and back, past all of them."""
     half = count // 2
     ends = place(-1), place(half)
-    made = (f"0 mmap {at:#x} 4096 PROT_READ {ANONYMOUS} -1 0" for at in (ends[0], *map(place, range(half))))
-    return [
-        "vmatrace 1",
-        *made,
-        *(
-            f"0 mremap {ends[turn % 2]:#x} 4096 4096 MREMAP_MAYMOVE|MREMAP_FIXED {ends[1 - turn % 2]:#x}"
-            for turn in range(half)
-        ),
-    ]
+    ways = [f"0 mremap {old:#x} 4096 4096 MREMAP_MAYMOVE|MREMAP_FIXED {new:#x}" for old, new in (ends, ends[::-1])]
+    return ["vmatrace 1", *mapped(range(-1, half)), *(ways[turn % 2] for turn in range(half))]
 
 
 def placed(count: int) -> list[str]:
     """Calls that name no place. Each area has other access than the one above it, so that no two become one."""
-    accesses = ("PROT_READ", "PROT_READ|PROT_WRITE")
-    return [
-        "vmatrace 1",
-        *(f"0 mmap 0 4096 {accesses[area % 2]} MAP_PRIVATE|MAP_ANONYMOUS -1 0" for area in range(count)),
-    ]
+    ways = [f"0 mmap 0 4096 {prot} MAP_PRIVATE|MAP_ANONYMOUS -1 0" for prot in ("PROT_READ", "PROT_READ|PROT_WRITE")]
+    return ["vmatrace 1", *(ways[area % 2] for area in range(count))]
 
 
 def reads_of(areas: int) -> Made:
     """So many areas, and reads of their list."""
-    made = [f"0 mmap {place(area):#x} 4096 PROT_READ {ANONYMOUS} -1 0" for area in range(areas)]
-    return lambda count: ["vmatrace 1", *made, *["0 maps"] * count]
-
-
-def small_reads(count: int) -> list[str]:
-    """One area, and reads of the list."""
-    return ["vmatrace 1", f"0 mmap {place(0):#x} 4096 PROT_READ {ANONYMOUS} -1 0", *["0 maps"] * count]
+    return lambda count: ["vmatrace 1", *mapped(range(areas)), *["0 maps"] * count]
 
 
 def opened(areas: int) -> list[str]:
     """A space for so many areas, which has one, a read of its list, and as many lines as may need the most areas, three each."""
-    made = f"0 mmap {place(0):#x} 4096 PROT_READ {ANONYMOUS} -1 0"
-    return ["vmatrace 1", f"limit areas {areas}", made, "0 maps", *["0 fault 0x1000 r"] * (MOST_AREAS // 3)]
+    return ["vmatrace 1", f"limit areas {areas}", *mapped([0]), "0 maps", *["0 fault 0x1000 r"] * (MOST_AREAS // 3)]
 
 
 def together(count: int) -> list[str]:
     """Calls of all callers, each of which maps a page and unmaps it again."""
-    both = (f"{{0}} mmap {{1:#x}} 4096 PROT_READ {ANONYMOUS} -1 0", "{0} munmap {1:#x} 4096")
-    return ["vmatrace 1", *(both[line % 2].format(line // 2 % CALLERS, place(line // 2 % 8)) for line in range(count))]
+    head, *lines = calls(count)
+    return [head, *(f"{at // 2 % CALLERS}{line[1:]}" for at, line in enumerate(lines))]
 
 
 def spaces(count: int) -> list[str]:
     """Address spaces of a session, each for as many areas as there may be."""
-    return ["vmatrace 1", f"0 mmap {place(0):#x} 4096 PROT_READ {ANONYMOUS} -1 0", "new"] * count
+    return ["vmatrace 1", *mapped([0]), "new"] * count
 
 
 def maps(count: int) -> list[str]:
@@ -135,11 +117,8 @@ def children(count: int) -> list[str]:
 
 
 def script(count: int) -> list[str]:
-    return [
-        "vmasteps 1",
-        "lock 1 1",
-        *["add 0 0", "look 0", "sub 0", "begin", "mark 0", "end 0 munmap 0x1000 4096"] * (count // 6),
-    ]
+    turn = ["add 0 0", "look 0", "sub 0", "begin", "mark 0", "end 0 munmap 0x1000 4096"]
+    return ["vmasteps 1", "lock 1 1", *turn * (count // 6)]
 
 
 def trees(count: int) -> list[str]:
@@ -152,8 +131,7 @@ def judged(made: Made) -> Input:
 
     def both(program: str, count: int) -> bytes:
         trace = bytes_of(made(count))
-        done, _ = answer("serial", [program, "serial"], SECONDS, input=trace)
-        return trace + b"==\n" + done.stdout
+        return trace + b"==\n" + expect("serial", [program, "serial"], SECONDS, input=trace)[0].stdout
 
     return both
 
@@ -174,8 +152,10 @@ class Size(NamedTuple):
     resident: int
 
 
+Mode = list[str] | None  # the words, and None of a session
+
 # the words, what makes the input, and its sizes
-MEMORY: list[tuple[str, list[str], Input, tuple[Size, ...]]] = [
+MEMORY: list[tuple[str, Mode, Input, tuple[Size, ...]]] = [
     ("a header alone", ["serial"], given(calls), (Size(0, 4, 6),)),
     ("calls", ["serial"], given(calls), (Size(200_000, 150, 84), Size(800_000, 345, 222))),
     ("faults", ["serial"], given(faults), (Size(200_000, 150, 76), Size(800_000, 345, 196))),
@@ -184,7 +164,7 @@ MEMORY: list[tuple[str, list[str], Input, tuple[Size, ...]]] = [
     ("children", ["serial"], given(children), (Size(50_000, 188, 160), Size(100_000, 276, 233))),
     ("areas that come and leave", ["serial"], given(leaving), (Size(32_000, 36, 22), Size(128_000, 120, 77))),
     ("reads of many areas", ["serial"], given(reads_of(MOST_AREAS)), (Size(16, 1000, 108), Size(64, 1000, 252))),
-    ("reads of one area", ["serial"], given(small_reads), (Size(16, 4, 6), Size(64, 4, 6))),
+    ("reads of one area", ["serial"], given(reads_of(1)), (Size(16, 4, 6), Size(64, 4, 6))),
     ("a load", ["generate", "{}", "1"], nothing, (Size(100_000, 115, 65), Size(400_000, 225, 153))),
     ("a text of calls", ["check"], judged(calls), (Size(200_000, 75, 50), Size(800_000, 205, 166))),
     ("a text of calls of many threads", ["check"], judged(shared), (Size(200_000, 75, 50),)),
@@ -192,17 +172,13 @@ MEMORY: list[tuple[str, list[str], Input, tuple[Size, ...]]] = [
     ("a list", ["retrace"], given(maps), (Size(16_000, 12, 8), Size(64_000, 24, 20))),
     ("a list of files", ["retrace"], given(files), (Size(256, 4, 6), Size(1_024, 5, 6))),
     ("a script", ["steps"], given(script), (Size(2_500, 8, 8), Size(9_996, 9, 9))),
-]
-
-# what makes the input of a session, and the same
-SESSIONS: list[tuple[str, Input, tuple[Size, ...]]] = [
-    ("calls of a session", given(calls), (Size(200_000, 54, 23), Size(800_000, 127, 83))),
-    ("reads of many areas in a session", given(reads_of(MOST_AREAS)), (Size(16, 48, 22), Size(64, 48, 22))),
-    ("spaces of a session", given(spaces), (Size(1, 30, 6), Size(1_000, 30, 6))),
+    ("calls of a session", None, given(calls), (Size(200_000, 54, 23), Size(800_000, 127, 83))),
+    ("reads of many areas in a session", None, given(reads_of(MOST_AREAS)), (Size(16, 48, 22), Size(64, 48, 22))),
+    ("spaces of a session", None, given(spaces), (Size(1, 30, 6), Size(1_000, 30, 6))),
 ]
 
 # the same as of memory, with the smaller of the two sizes
-TIME: list[tuple[str, list[str], Input, int]] = [
+TIME: list[tuple[str, Mode, Input, int]] = [
     ("calls", ["serial"], given(calls), 100_000),
     ("faults", ["serial"], given(faults), 100_000),
     ("areas that come and leave", ["serial"], given(leaving), 32_000),
@@ -217,17 +193,18 @@ TIME: list[tuple[str, list[str], Input, int]] = [
     ("a list", ["retrace"], given(maps), 16_000),
     ("a script", ["steps"], given(script), 2_499),
     ("a script of trees", ["steps"], given(trees), 2_499),
-]
-
-# the same of sessions
-SESSION_TIME: list[tuple[str, Input, int]] = [
-    ("calls of a session", given(calls), 100_000),
-    ("areas that come and leave in a session", given(leaving), 32_000),
+    ("calls of a session", None, given(calls), 100_000),
+    ("areas that come and leave in a session", None, given(leaving), 32_000),
 ]
 
 
-def words_of(words: list[str], count: int) -> list[str]:
-    return [word.format(count) for word in words]
+def command_of(options: Options, words: Mode, count: int) -> list[str]:
+    return [live_of(options.live)] if words is None else [options.program, *(word.format(count) for word in words)]
+
+
+def least(name: str, command: Words, text: bytes, **more: Any) -> float:
+    """The least processor time of three runs."""
+    return min(expect(name, command, SECONDS, input=text, **more)[1] for _ in range(3))
 
 
 def run_within(name: str, command: Words, text: bytes, most: int) -> tuple[Done, int]:
@@ -277,55 +254,35 @@ def check_waiting(program: str, count: int) -> None:
     def stay() -> None:
         os.sched_setaffinity(0, {processor})
 
-    def least(mode: str) -> float:
-        runs = [answer(name, [program, mode], SECONDS, stay, input=text) for _ in range(3)]
-        for done, _ in runs:
-            check_ended(name, done, 0)
-        return min(took for _, took in runs)
-
-    alone, all_of_them = least("serial"), least("threads")
+    alone, all_of_them = (least(name, [program, mode], text, begin=stay) for mode in ("serial", "threads"))
     if all_of_them > WAITING_TIMES * alone:
         fail(name, f"{CALLERS} callers take {all_of_them:.2f} seconds, and one takes {alone:.2f}")
     passed(f"{name}, {CALLERS} in {all_of_them:.2f} seconds and one in {alone:.2f}")
 
 
-def check_memory(program: str, name: str, words: list[str], text: bytes, size: Size) -> None:
-    at = f"{name}, {size.parts} of them in {size.addresses} MiB"
-    most = resident(at, [program, *words_of(words, size.parts)], text, size.addresses)
+def check_memory(options: Options, name: str, words: Mode, made: Input, size: Size) -> None:
+    at, text = f"{name}, {size.parts} of them in {size.addresses} MiB", made(options.program, size.parts)
+    most = resident(at, command_of(options, words, size.parts), text, size.addresses)
     if most > size.resident:
         fail(at, f"{most:.0f} MiB are resident, and not at most {size.resident}")
     passed(f"{at}, of which {most:.0f} are resident, of {size.resident}")
 
 
-def least_time(program: str, name: str, words: list[str], text: bytes, count: int) -> float:
-    runs = [answer(name, [program, *words_of(words, count)], SECONDS, input=text) for _ in range(3)]
-    for done, _ in runs:
-        check_ended(name, done, 0)
-    return min(took for _, took in runs)
-
-
-def check_time(program: str, name: str, words: list[str], made: Input, count: int) -> None:
-    small, large = made(program, count), made(program, 4 * count)
+def check_time(options: Options, name: str, words: Mode, made: Input, count: int) -> None:
+    sizes = [(command_of(options, words, parts), made(options.program, parts)) for parts in (count, 4 * count)]
     for _ in range(TRIES):
-        before = least_time(program, name, words, small, count)
-        after = least_time(program, name, words, large, 4 * count)
+        before, after = (least(name, command, text) for command, text in sizes)
         if after < MOST_TIMES * before:
             return passed(f"{name}, {count} in {before:.2f} seconds and {4 * count} in {after:.2f}")
     fail(name, f"{count} take {before:.2f} seconds, and {4 * count} take {after:.2f}, {TRIES} times over")
 
 
 def check(options: Options) -> None:
-    live = live_of(options.live)
     for name, words, made, sizes in MEMORY:
         for size in sizes:
-            check_memory(options.program, name, words, made(options.program, size.parts), size)
-    for name, made, sizes in SESSIONS:
-        for size in sizes:
-            check_memory(live, name, [], made(options.program, size.parts), size)
+            check_memory(options, name, words, made, size)
     check_room("a space", [options.program, "serial"], 1090, 672)
-    check_room("a space of a session", [live], 390, 16)
+    check_room("a space of a session", [live_of(options.live)], 390, 16)
     check_waiting(options.program, 200_000)
     for name, words, made, count in TIME:
-        check_time(options.program, name, words, made, count)
-    for name, made, count in SESSION_TIME:
-        check_time(live, name, [], made, count)
+        check_time(options, name, words, made, count)

@@ -8,7 +8,6 @@ dev/make-reference makes its pages, and finds no item without a comment. docs/HE
 the tables of docs/KERNEL.md are those of dev/kernel-table.
 The manual page passes `mandoc -T lint`, where that is installed.
 """
-from __future__ import annotations
 
 import os
 import re

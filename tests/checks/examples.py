@@ -3,14 +3,13 @@ beside a script is what `steps` gives. Of each row of docs/KERNEL.md the program
 
 No trace that forks is judged.
 """
-from __future__ import annotations
 
 import re
 import subprocess
 import sys
 from pathlib import Path
 
-from checking import TOP, Options, answer, check_ended, compare, fail, passed
+from checking import TOP, Options, expect, fail, passed
 
 FOLDER = TOP / "examples"
 SECONDS = 10
@@ -20,13 +19,9 @@ FORK = re.compile(rb"^[0-9]+ +fork ", re.MULTILINE)
 def check_output(program: str, mode: str, path: Path) -> None:
     """What a mode gives for a file is beside it, and is legal."""
     name, text, right = str(path.relative_to(TOP)), path.read_bytes(), path.with_suffix(".out").read_bytes()
-    done, _ = answer(name, [program, mode], SECONDS, input=text)
-    check_ended(name, done, 0)
-    compare(name, done.stdout, right)
+    expect(name, [program, mode], SECONDS, output=right, input=text)
     if mode == "serial" and not FORK.search(text):
-        judged, _ = answer(name, [program, "check"], SECONDS, input=text + b"==\n" + right)
-        check_ended(f"{name}, check", judged, 0)
-        compare(f"{name}, check", judged.stdout, b"legal\n")
+        expect(f"{name}, check", [program, "check"], SECONDS, output=b"legal\n", input=text + b"==\n" + right)
 
 
 def check_rows(program: str) -> None:

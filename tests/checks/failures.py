@@ -6,7 +6,6 @@ error. The system gives so many bytes of an input before a read fails, for each 
 fault`, and nothing given, or of a session the answers to all whole lines before. A read or a write that would have to wait is
 refused in the same way. In too little address space a run ends with status 6, `no memory`, and nothing given.
 """
-from __future__ import annotations
 
 import os
 import resource
@@ -14,9 +13,11 @@ import signal
 import socket
 import tempfile
 from collections.abc import Sequence
+from contextlib import suppress
+from functools import partial
 from typing import Any
 
-from checking import TOP, Options, answer, bytes_of, check_ended, compare, fail, limit, live_of, passed
+from checking import TOP, Options, answer, bytes_of, compare, expect, fail, limit, live_of, passed
 from vmatools.unproved import sessions
 
 SECONDS = 10
@@ -53,51 +54,27 @@ SESSION = (
 )
 
 
-def long_trace() -> bytes:
-    """A trace whose output is given in several pieces."""
-    lines = (
-        f"0 mmap {0x10000000 + 8192 * area:#x} 4096 PROT_READ MAP_PRIVATE|MAP_ANONYMOUS|MAP_FIXED -1 0"
-        for area in range(2500)
-    )
-    return bytes_of(["vmatrace 1", "limit areas 2500", *lines])
+def areas(count: int) -> list[str]:
+    """Lines that map so many areas."""
+    places = (0x10000000 + 8192 * area for area in range(count))
+    return [f"0 mmap {place:#x} 4096 PROT_READ MAP_PRIVATE|MAP_ANONYMOUS|MAP_FIXED -1 0" for place in places]
 
 
 def called(words: list[str]) -> str:
     return " ".join(words) or "a session"
 
 
-def long_maps() -> bytes:
-    """A maps text of nearly as many lines as there may be areas."""
-    places = (0x10000000 + 8192 * area for area in range(60_000))
-    return bytes_of(f"{place:08x}-{place + 4096:08x} r--p 00000000 00:00 0 " for place in places)
-
-
-def long_lists() -> bytes:
-    """Two threads that read a list of as many areas as there may be, as often as they may."""
-    made = (
-        f"0 mmap {0x10000000 + 8192 * area:#x} 4096 PROT_READ MAP_PRIVATE|MAP_ANONYMOUS|MAP_FIXED -1 0"
-        for area in range(MOST_AREAS)
-    )
-    return bytes_of(["vmatrace 1", *made, *["0 maps", "1 maps"] * (MOST_LISTS // 2)])
-
-
 def check_writes(program: str, words: list[str], text: bytes, some: list[int] | None = None) -> None:
     """Writes fail behind each of these places of the output, or behind each place of all."""
     name = f"{called(words)}, a write that fails"
-    done, _ = answer(name, [program, *words], SECONDS, input=text)
-    check_ended(name, done, 0)
-    whole = done.stdout
+    whole = expect(name, [program, *words], SECONDS, input=text)[0].stdout
     places: Sequence[int] = range(len(whole)) if some is None else [*some, len(whole) - 1]
     for place in (*places, len(whole)):
+        at, ended = f"{name} behind {place} bytes", (5, b"write fault\n") if place < len(whole) else (0, b"")
         with tempfile.TemporaryFile() as output:
-            done, _ = answer(
-                name, [program, *words], SECONDS, begin=lambda: end_files_at(place), input=text, stdout=output
-            )
+            expect(at, [program, *words], SECONDS, *ended, begin=lambda: end_files_at(place), input=text, stdout=output)
             output.seek(0)
-            given = output.read()
-        at, failed = f"{name} behind {place} bytes", place < len(whole)
-        check_ended(at, done, 5 if failed else 0, b"write fault\n" if failed else b"")
-        compare(f"{at}, standard output", given, whole[:place])
+            compare(f"{at}, standard output", output.read(), whole[:place])
     passed(f"{name} behind {len(places)} places")
 
 
@@ -116,11 +93,8 @@ def check_reads(program: str, words: list[str], text: bytes) -> None:
             here.send(b"unread")
             there.sendall(text[:place])
             there.close()
-            done, _ = answer(name, [program, *words], SECONDS, stdin=here)
-        at = f"{name} behind {place} bytes"
-        check_ended(at, done, 4, b"read fault\n")
-        given = b"" if words else sessions.answers(text[:place], has_end=False)
-        compare(f"{at}, standard output", done.stdout, given)
+            given = b"" if words else sessions.answers(text[:place], has_end=False)
+            expect(f"{name} behind {place} bytes", [program, *words], SECONDS, 4, b"read fault\n", given, stdin=here)
     passed(f"{name} behind {len(text) + 1} places")
 
 
@@ -129,20 +103,15 @@ def check_waits(program: str) -> None:
     read, write = os.pipe()
     os.write(write, TRACE)
     os.set_blocking(read, False)
-    done, _ = answer("a read that would wait", [program, "serial"], SECONDS, stdin=read)
-    check_ended("a read that would wait", done, 4, b"read fault\n")
-    compare("a read that would wait, standard output", done.stdout, b"")
+    serial = [program, "serial"]
+    expect("a read that would wait", serial, SECONDS, 4, b"read fault\n", b"", stdin=read)
     os.set_blocking(write, False)
-    try:
+    with suppress(BlockingIOError):
         while True:
             os.write(write, bytes(PIECE))
-    except BlockingIOError:
-        pass
-    done, _ = answer("a write that would wait", [program, "serial"], SECONDS, input=TRACE, stdout=write)
-    check_ended("a write that would wait", done, 5, b"write fault\n")
+    expect("a write that would wait", serial, SECONDS, 5, b"write fault\n", input=TRACE, stdout=write)
     os.close(read)
-    done, _ = answer("a write that nobody reads", [program, "serial"], SECONDS, input=TRACE, stdout=write)
-    check_ended("a write that nobody reads", done, 5, b"write fault\n")
+    expect("a write that nobody reads", serial, SECONDS, 5, b"write fault\n", input=TRACE, stdout=write)
     os.close(write)
     passed("what would have to wait, or is read by nobody")
 
@@ -150,11 +119,9 @@ def check_waits(program: str) -> None:
 def check_devices(program: str) -> None:
     """A folder cannot be read, and /dev/full not be written; a line that cannot be written to standard error is left out."""
     full, folder = os.open("/dev/full", os.O_WRONLY), os.open(TOP, os.O_RDONLY)
-    done, _ = answer("a folder", [program, "serial"], SECONDS, stdin=folder)
-    check_ended("a folder", done, 4, b"read fault\n")
+    expect("a folder", [program, "serial"], SECONDS, 4, b"read fault\n", stdin=folder)
     for words, text in RUNS:
-        done, _ = answer("/dev/full", [program, *words], SECONDS, input=text, stdout=full)
-        check_ended("/dev/full", done, 5, b"write fault\n")
+        expect("/dev/full", [program, *words], SECONDS, 5, b"write fault\n", input=text, stdout=full)
     ends: tuple[tuple[int, list[str], dict[str, Any]], ...] = (
         (0, ["serial"], {"input": TRACE}),
         (2, [], {"input": b""}),
@@ -171,7 +138,10 @@ def check_devices(program: str) -> None:
 
 def check_memory(program: str, session: str) -> None:
     """Memory runs out before a run, and in the midst of one."""
-    short, maps, lists = b"vmatrace 1\n0 munmap 0x10000 4096\n", long_maps(), long_lists()
+    short, places = b"vmatrace 1\n0 munmap 0x10000 4096\n", (0x10000000 + 8192 * area for area in range(60_000))
+    # Nearly as many lines as there may be areas; two threads that read a list of as many as there may be, as often as they may.
+    maps = bytes_of(f"{place:08x}-{place + 4096:08x} r--p 00000000 00:00 0 " for place in places)
+    lists = bytes_of(["vmatrace 1", *areas(MOST_AREAS), *["0 maps", "1 maps"] * (MOST_LISTS // 2)])
     # So many lines that a space for them has room for as many areas as there may be.
     many = short + 21_842 * b"0 munmap 0x10000 4096\n"
     runs: list[tuple[list[str], bytes, int]] = [
@@ -188,9 +158,8 @@ def check_memory(program: str, session: str) -> None:
     for words, text, mebibytes in runs:
         name = f"{called(words)} over {len(text)} bytes in {mebibytes} MiB"
         command, most = [program if words else session, *words], mebibytes * MIB
-        done, _ = answer(name, command, SECONDS, lambda: limit(resource.RLIMIT_AS, most), input=text)
-        check_ended(name, done, 6, b"no memory\n")
-        compare(f"{name}, standard output", done.stdout, b"")
+        bounded = partial(limit, resource.RLIMIT_AS, most)
+        expect(name, command, SECONDS, 6, b"no memory\n", b"", begin=bounded, input=text)
         passed(name)
 
 
@@ -200,9 +169,9 @@ def check(options: Options) -> None:
         check_writes(program, words, text)
         if text:
             check_reads(program, words, text)
-    check_writes(
-        program, ["serial"], long_trace(), [0, PIECE - 1, PIECE, PIECE + 1, 2 * PIECE - 1, 2 * PIECE, 2 * PIECE + 1]
-    )
+    several = bytes_of(["vmatrace 1", "limit areas 2500", *areas(2500)])  # its output is given in several pieces
+    at_pieces = [0, PIECE - 1, PIECE, PIECE + 1, 2 * PIECE - 1, 2 * PIECE, 2 * PIECE + 1]
+    check_writes(program, ["serial"], several, at_pieces)
     session = live_of(options.live)
     check_writes(session, [], SESSION)
     check_reads(session, [], SESSION)

@@ -6,68 +6,26 @@ refused. `vma explain` has a sentence and a mark for each bad line. 10 N times a
 of which has to answer as its model does, and as `serial` does where it is a trace. A run that takes too long fails. The first
 input that differs is left in FOLDER.
 """
-from __future__ import annotations
 
 import argparse
 import random
-import re
 from collections import Counter
 from collections.abc import Callable
 from pathlib import Path
 
 import hostile_inputs as inputs
-from checking import Failed, answer, check_ended, compare, fail, live_of, passed
+from checking import Failed, compare, expect, fail, live_of, passed
 
 from vmatools import traces
 from vmatools.comparing import judging
-from vmatools.profile import serial
 from vmatools.running import live
-from vmatools.texts import explanations, maps_texts
-from vmatools.unproved import scripts, sessions
-
-Answer = tuple[int, bytes, bytes]  # status, standard output, standard error
-Modelled = Callable[[bytes], Answer]
+from vmatools.texts import explanations
+from vmatools.unproved import modes, sessions
 
 SECONDS = 10
 TOGETHER = 250  # address spaces of a session
 ADDRESSES = [0, 0xFFFF, 0x100000, 0x101FFF, 0x7FFFFFFFEFFF, 0x7FFFFFFFF000, 2**64 - 1]
 WORDS = ["serial", "threads", "check", "query", "generate", "retrace", "steps", "--help", "", " serial", "Serial", "é"]
-
-
-# Models
-
-
-def refused(bad: traces.BadLine) -> Answer:
-    return 3, b"", f"trace {bad}\n".encode()
-
-
-def replayed(data: bytes) -> Answer:
-    """What `serial` answers."""
-    try:
-        return 0, serial.serial_output(traces.read_trace(data)).encode(), b""
-    except traces.BadLine as bad:
-        return refused(bad)
-
-
-def judged(data: bytes) -> Answer:
-    """What `check` answers."""
-    head, border, text = (b"\n" + data).partition(b"\n==\n")
-    reader = traces.Reader(head[1:] + b"\n" if border and head else head[1:])
-    lines = []
-    try:
-        for line in reader:
-            if line.word == "fork":
-                return 3, b"", f"trace line {line.number} cause 14 Child\n".encode()
-            lines.append(line)
-    except traces.BadLine as bad:
-        return refused(bad)
-    if not border:
-        return 3, b"", b"trace line %d cause 11 NoEnd\n" % (data.count(b"\n") + 1)
-    wrong = judging.first_wrong(reader.trace.with_lines(lines), text)
-    return 0, f"bad {wrong.line}\n".encode() if wrong else b"legal\n", b""
-
-
-# Runs
 
 
 class Runs:
@@ -79,71 +37,50 @@ class Runs:
     def draws(self, mode: str) -> list[random.Random]:
         return [random.Random(f"{mode} {self.seed} {number}") for number in range(self.count)]
 
-    def gives(self, name: str, words: list[str], data: bytes, wanted: Answer) -> None:
-        """A run answers as is wanted."""
+    def gives(self, name: str, words: list[str], data: bytes) -> int:
+        """The status of a run, which has to answer as the model does."""
+        status, output, message = modes.answered(words, lambda: data)
         try:
-            done, _ = answer(name, [self.program, *words], SECONDS, input=data)
-            check_ended(name, done, wanted[0], wanted[2])
-            compare(f"{name}, standard output", done.stdout, wanted[1])
+            expect(name, [self.program, *words], SECONDS, status, message, output, input=data)
         except Failed as failed:
-            self.leave(name, data, failed)
+            self.leave(data, failed)
+        return status
 
-    def leave(self, name: str, data: bytes, failed: Failed) -> None:
+    def leave(self, data: bytes, failed: Failed) -> None:
         self.folder.mkdir(parents=True, exist_ok=True)
         (self.folder / "input").write_bytes(data)
         fail(str(failed), f"its input is in {self.folder}")
 
-    def check(self, mode: str, drawn: Callable[[random.Random], bytes], modelled: Modelled) -> None:
-        """The runs of a mode without another word."""
+    def check(self, mode: str, drawn: Callable[[random.Random], bytes]) -> None:
+        """The runs of a mode."""
         statuses: Counter[int] = Counter()
         for number, draw in enumerate(self.draws(mode)):
             data = drawn(draw)
-            wanted = modelled(data)
-            self.gives(f"{mode}, input {number} of seed {self.seed}", [mode], data, wanted)
-            statuses[wanted[0]] += 1
+            words = [mode, draw.choice([*map(hex, ADDRESSES), *inputs.NUMBERS])] if mode == "query" else [mode]
+            statuses[self.gives(f"{' '.join(words)}, input {number} of seed {self.seed}", words, data)] += 1
         passed(f"{self.count} inputs of {mode}, {statuses[3]} of them bad")
-
-    def check_query(self) -> None:
-        for number, draw in enumerate(self.draws("query")):
-            data, word = inputs.maps_text(draw), draw.choice([*map(hex, ADDRESSES), *inputs.NUMBERS])
-            address = traces.number_of(word)
-            wanted = (2, b"", b"words\n") if address is None else maps_texts.query(data, address)
-            self.gives(f"query {word}, input {number} of seed {self.seed}", ["query", word], data, wanted)
-        passed(f"{self.count} inputs of query")
 
     def check_threads(self) -> None:
         for number, draw in enumerate(self.draws("threads")):
             data, name = inputs.trace(draw), f"threads, input {number} of seed {self.seed}"
-            wanted = replayed(data)
-            if wanted[0]:
-                self.gives(name, ["threads"], data, wanted)
+            if modes.serial(data)[0]:
+                self.gives(name, ["threads"], data)
                 continue
-            done, _ = answer(name, [self.program, "threads"], SECONDS, input=data)
-            wrong = judging.first_wrong(traces.read_trace(data), done.stdout)
             try:
-                check_ended(name, done, 0)
+                done, _ = expect(name, [self.program, "threads"], SECONDS, input=data)
+                wrong = judging.first_wrong(traces.read_trace(data), done.stdout)
                 if wrong:
                     fail(name, f"line {wrong.line}: {wrong.why}")
             except Failed as failed:
-                self.leave(name, data, failed)
+                self.leave(data, failed)
         passed(f"{self.count} inputs of threads")
 
     def check_words(self) -> None:
-        """Words of which few are those of a mode."""
+        """Words of which few are those of a mode, over an empty input."""
         for draw in self.draws("words"):
             words = [draw.choice(WORDS), *draw.choices([*WORDS, *inputs.NUMBERS], k=draw.choice([0, 1, 1, 2, 2, 3, 50]))]
-            if not are_accepted(words):
-                self.gives(f"the words {words}", words, b"", (2, b"", b"words\n"))
+            self.gives(f"the words {words}", words, b"")
         passed("words that are none of a mode's are refused")
-
-
-def are_accepted(words: list[str]) -> bool:
-    name, rest = words[0], words[1:]
-    if name == "query":
-        return len(rest) == 1 and traces.number_of(rest[0]) is not None
-    if name == "generate":
-        return len(rest) == 2 and all(re.fullmatch("[0-9]{1,20}", word) for word in rest) and int(rest[1]) < 2**64
-    return not rest and name in ("serial", "threads", "check", "retrace", "steps")
 
 
 # Sessions
@@ -157,11 +94,9 @@ def check_sessions(session: str, runs: Runs) -> None:
         data = b"".join(inputs.session(draw) for _ in range(TOGETHER)) + inputs.trace(draw)
         name = f"the sessions from {spaces} of seed {runs.seed}"
         try:
-            done, _ = answer(name, [session], SECONDS, input=data)
-            check_ended(name, done, 0)
-            compare(name, done.stdout, sessions.answers(data))
+            expect(name, [session], SECONDS, output=sessions.answers(data), input=data)
         except Failed as failed:
-            runs.leave(name, data, failed)
+            runs.leave(data, failed)
         spaces += TOGETHER
     passed(f"{spaces} address spaces of sessions")
 
@@ -169,12 +104,9 @@ def check_sessions(session: str, runs: Runs) -> None:
 def check_beside_serial(session: str, runs: Runs) -> None:
     """What a session answers to a trace is what `serial` prints."""
     asked = [data for data in map(inputs.valid_trace, runs.draws("beside")) if b" fork " not in data]
-    done, _ = answer("traces in a session", [session], SECONDS, input=b"new\n".join([*asked, b""]))
-    check_ended("traces in a session", done, 0)
-    given = done.stdout
+    given = expect("traces in a session", [session], SECONDS, input=b"new\n".join([*asked, b""]))[0].stdout
     for data in asked:
-        printed, _ = answer("serial", [runs.program, "serial"], SECONDS, input=data)
-        check_ended("serial", printed, 0)
+        printed, _ = expect("serial", [runs.program, "serial"], SECONDS, input=data)
         part, given = given[: len(printed.stdout)], given[len(printed.stdout) :]
         compare("a session beside serial", live.as_serial(part.decode()).encode(), printed.stdout)
     passed(f"{len(asked)} traces in a session, beside serial")
@@ -191,7 +123,7 @@ def check_explained(runs: Runs) -> None:
             causes.add(bad.cause)
             text, (start, end) = explanations.marked_span(bad)
             if not explanations.explain(bad) or not 0 <= start < end:
-                runs.leave(f"explain, input {number}", data, Failed(f"explain: {bad}: no sentence or no mark for {text[:100]!r}"))
+                runs.leave(data, Failed(f"explain, input {number}: {bad}: no sentence or no mark for {text[:100]!r}"))
     passed(f"bad lines explained, of {len(causes)} causes")
 
 
@@ -206,11 +138,11 @@ def add_arguments(parser: argparse.ArgumentParser) -> None:
 def check(options: argparse.Namespace) -> None:
     session = live_of(options.live)
     runs = Runs(options.program, options.seed, options.runs, options.keep)
-    runs.check("serial", inputs.trace, replayed)
-    runs.check("check", inputs.answered_trace, judged)
-    runs.check("retrace", inputs.maps_text, maps_texts.retrace)
-    runs.check("steps", inputs.script, scripts.steps)
-    runs.check_query()
+    runs.check("serial", inputs.trace)
+    runs.check("check", inputs.answered_trace)
+    runs.check("retrace", inputs.maps_text)
+    runs.check("query", inputs.maps_text)
+    runs.check("steps", inputs.script)
     runs.check_threads()
     runs.check_words()
     check_explained(runs)

@@ -1,5 +1,4 @@
 """Hostile inputs, each drawn by a random generator: valid ones in which bytes, words or lines are wrong, and random bytes."""
-from __future__ import annotations
 
 import random
 from collections.abc import Callable

@@ -7,7 +7,6 @@ since the kept number then lets a slower program pass. `--write` keeps the numbe
 answers and not what it costs: a reader that reads three times, a run that is made twice and a list that is copied for each
 placement meet every clause.
 """
-from __future__ import annotations
 
 import argparse
 import os
@@ -25,7 +24,7 @@ from costs import Input, calls, faults, files, given, judged, leaving, moving, n
 KEPT = Path(__file__).with_suffix(".tsv")
 SECONDS = 120
 ALLOWED = 20  # a twentieth
-MOST_PAGE_FAULTS = 160  # of a run of one call, which has 117: the program, its stack, and a page or two of each table
+MOST_PAGE_FAULTS = 160  # of a run of one call, which has 101: the program, its stack, and a page or two of each table
 
 
 class Counted(NamedTuple):

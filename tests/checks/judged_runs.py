@@ -11,7 +11,6 @@ order of the items decides all that they say. And one item takes another place, 
 but the judges have to agree. The first run that a judge refuses, or of which the two say different things, ends it, and
 leaves trace, output and why in FOLDER.
 """
-from __future__ import annotations
 
 import argparse
 import os

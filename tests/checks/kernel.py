@@ -6,7 +6,6 @@ sandbox or a setting of the machine forbids what the command needs, a line says 
 fails on the runner, at the first run that crashes or does not end, at the first output that is of no form, and at the first
 run that should have been refused.
 """
-from __future__ import annotations
 
 import os
 import platform
@@ -14,49 +13,24 @@ import re
 import subprocess
 import sys
 import tempfile
+from pathlib import Path
 
 from checking import TOP, Options, fail, passed, skipped
 
 TOOL = TOP / "tools/vma"
+# A file below a name with blanks, a shared object of each side of a fork, an execution, and the list before and after.
+OWN = TOP / "tests/checks/kernel.trace"
 EXAMPLES = ["two-mappings", "readme", "tour", "faults", "fork"]
 OLDEST = (5, 4)
 CANNOT, FORBIDDEN = 4, 5  # statuses of `vma kernel`: what this machine cannot do for a trace, and cannot do at all
 FORM = re.compile(r"L\d+ t\d+ v\d+ = .+|maps \d+|child \d+ of L\d+ v\d+|[0-9a-f]{8,}-[0-9a-f]{8,} [rwxsp-]{4} .*")
 
-# A file below a name with blanks, a shared object of each side of a fork, an execution, and the list before and after.
-MORE = """vmatrace 2
-file 9 r 4097 8:1 77 /srv/a name \\012 of blanks
-0 mmap 0x200000 12288 PROT_READ|PROT_EXEC MAP_PRIVATE|MAP_FIXED 9 4096
-0 mmap 0x300000 4096 PROT_READ MAP_SHARED|MAP_ANONYMOUS|MAP_FIXED -1 0
-0 fork 5
-1 fault 0x200000 x after=4
-0 fault 0x300000 x
-1 fault 0x201000 x
-5 mmap 0x400000 4096 PROT_READ MAP_SHARED|MAP_ANONYMOUS|MAP_FIXED -1 0
-0 mmap 0x500000 4096 PROT_READ MAP_SHARED|MAP_ANONYMOUS|MAP_FIXED -1 0
-5 munmap 0x200000 12288
-0 munmap 0x200001 1
-"""
-MORE_OUTPUT = """L3 t0 v1 = 0x200000
-L4 t0 v2 = 0x300000
-L5 t0 v2 = child 5 areas 2
-L7 t0 v2 = SIGSEGV SEGV_ACCERR
-L6 t1 v2 = served 00200000-00203000 r-xp page 1
-L8 t1 v2 = SIGBUS BUS_ADRERR
-L10 t0 v3 = 0x500000
-L12 t0 v4 = -1 EINVAL
-maps 3
-00200000-00203000 r-xp 00001000 08:01 77                                 /srv/a name \\012 of blanks
-00300000-00301000 r--s 00000000 00:01 2                                  /dev/zero (deleted)
-00500000-00501000 r--s 00000000 00:01 3                                  /dev/zero (deleted)
-child 5 of L5 v2
-L9 t5 v1 = 0x400000
-L11 t5 v2 = 0
-maps 2
-00300000-00301000 r--s 00000000 00:01 2                                  /dev/zero (deleted)
-00400000-00401000 r--s 00000000 00:01 3                                  /dev/zero (deleted)
-"""
-
+FIXED = "PROT_NONE MAP_PRIVATE|MAP_ANONYMOUS|MAP_FIXED -1 0\n"
+PLACED = "PROT_READ MAP_PRIVATE|MAP_ANONYMOUS{} -1 0\n"
+MUCH = f"vmatrace 1\n0 mmap 0 0x80000000 {PLACED.format('|MAP_POPULATE')}"
+# All up to the tool's own addresses is taken, and then a place is looked for.
+TAKEN = f"vmatrace 1\n0 mmap 0x10000 {0x7FFFFF000000 - 0x10000} {FIXED}0 mmap 0 4096 {PLACED.format('')}"
+LOW = ["--window", "0x10000-0x20000"]
 # What it refuses: its name, its words, the trace, the status, and what the line on standard error has.
 REFUSED: list[tuple[str, list[str], str, int, str]] = [
     ("an option that is none", ["--fast"], "vmatrace 1\n", 2, "--fast"),
@@ -67,35 +41,10 @@ REFUSED: list[tuple[str, list[str], str, int, str]] = [
     ("the tool's own addresses", [], "vmatrace 1\n0 munmap 0 0x7ffffffff000\n", 4, "line 2: it touches"),
     ("a top out of reach", [], "vmatrace 1\ntop 0x100000\n", 4, "`top 0x100000`"),
     ("another lowest address", [], "vmatrace 1\nmin 0x7000000\n", 4, "`min 0x7000000`"),
-    (
-        "very much memory at once",
-        [],
-        "vmatrace 1\n0 mmap 0 0x80000000 PROT_READ MAP_PRIVATE|MAP_ANONYMOUS|MAP_POPULATE -1 0\n",
-        4,
-        "line 2: MAP_POPULATE",
-    ),
-    (
-        "a search that comes to the tool's own addresses",
-        [],
-        f"vmatrace 1\n0 mmap 0x10000 {0x7FFFFF000000 - 0x10000} PROT_NONE MAP_PRIVATE|MAP_ANONYMOUS|MAP_FIXED -1 0\n"
-        "0 mmap 0 4096 PROT_READ MAP_PRIVATE|MAP_ANONYMOUS -1 0\n",
-        4,
-        "line 3: a search for a place comes to the addresses",
-    ),
-    (
-        "a window that is left",
-        ["--window", "0x10000-0x20000"],
-        "vmatrace 1\n0 munmap 0x1f000 8192\n",
-        4,
-        "line 2: it leaves the window from 0x10000 to 0x20000",
-    ),
-    (
-        "a system that is none",
-        ["--system", "bochs"],
-        "vmatrace 1\n",
-        2,
-        "bochs is no system; there are native, window,",
-    ),
+    ("very much memory at once", [], MUCH, 4, "line 2: MAP_POPULATE"),
+    ("a search that comes to the tool's own addresses", [], TAKEN, 4, "line 3: a search for a place comes to the addresses"),
+    ("a window that is left", LOW, "vmatrace 1\n0 munmap 0x1f000 8192\n", 4, "line 2: it leaves the window from 0x10000"),
+    ("a system that is none", ["--system", "bochs"], "vmatrace 1\n", 2, "bochs is no system; there are native, window,"),
     ("a command that is none", ["--under", "/nowhere"], "vmatrace 1\n", 5, "/nowhere cannot be run: No such file"),
 ]
 
@@ -103,9 +52,11 @@ REFUSED: list[tuple[str, list[str], str, int, str]] = [
 def run(trace: str, *words: str, **environment: str) -> subprocess.CompletedProcess[str]:
     command = [sys.executable, str(TOOL), "kernel", *words]
     ends = {**os.environ, **environment}
-    return subprocess.run(
-        command, input=trace, capture_output=True, encoding="utf-8", errors="replace", timeout=600, env=ends
-    )
+    return subprocess.run(command, input=trace, capture_output=True, encoding="utf-8", errors="replace", timeout=600, env=ends)
+
+
+def told(done: subprocess.CompletedProcess[str]) -> str:
+    return f"has status {done.returncode}, and on standard error stands {done.stderr.strip()[:300]}"
 
 
 def why_not() -> str | None:
@@ -120,20 +71,18 @@ def why_not() -> str | None:
     if first.returncode in (CANNOT, FORBIDDEN) and "`cc` fails" not in first.stderr:
         return first.stderr.strip().removeprefix("vma kernel: ")
     if first.returncode:
-        fail(
-            "an empty trace",
-            f"has status {first.returncode}, and on standard error stands {first.stderr.strip()[:300]}",
-        )
+        fail("an empty trace", told(first))
     return None
 
 
-def check_output(name: str, trace: str, output: str) -> None:
-    done = run(trace)
+def check_output(path: Path) -> None:
+    """What the kernel answers to a trace has the form of an output; whether it is the one beside the trace is said."""
+    name, done = path.stem, run(path.read_text(encoding="utf-8"))
     if done.returncode in (CANNOT, FORBIDDEN):
         return skipped(name, f"this machine cannot run it: {done.stderr.strip()}")
     if done.returncode != 0:
-        fail(name, f"has status {done.returncode}, and on standard error stands {done.stderr.strip()[:300]}")
-    given, wanted = done.stdout.splitlines(), output.splitlines()
+        fail(name, told(done))
+    given, wanted = done.stdout.splitlines(), path.with_suffix(".out").read_text(encoding="utf-8").splitlines()
     bad = next((text for text in given if not FORM.fullmatch(text)), None)
     if bad is not None:
         fail(name, f"`{bad}` is no line of an output")
@@ -147,10 +96,7 @@ def check_output(name: str, trace: str, output: str) -> None:
 def check_refused(name: str, words: list[str], trace: str, status: int, message: str) -> None:
     done = run(trace, *words)
     if done.returncode != status or message not in done.stderr or done.stdout:
-        fail(
-            name,
-            f"has status {done.returncode}, and not {status}; on standard error stands {done.stderr.strip()[:300]}",
-        )
+        fail(name, f"{told(done)}, and not status {status} and {message}")
     passed(f"{name}, refused")
 
 
@@ -159,7 +105,7 @@ def check_without_cc() -> None:
     with tempfile.TemporaryDirectory() as empty:
         done = run("vmatrace 1\n", PATH=empty, XDG_CACHE_HOME=empty)
     if done.returncode != 5 or "`cc` is missing" not in done.stderr:
-        fail("no compiler", f"has status {done.returncode}, and on standard error stands {done.stderr.strip()[:300]}")
+        fail("no compiler", told(done))
     passed("no compiler, refused")
 
 
@@ -167,10 +113,8 @@ def check(_options: Options) -> None:
     why = why_not()
     if why:
         return skipped("all", why)
-    for name in EXAMPLES:
-        trace, wanted = (TOP / "examples" / (name + ending) for ending in (".trace", ".out"))
-        check_output(name, trace.read_text(encoding="utf-8"), wanted.read_text(encoding="utf-8"))
-    check_output("files, objects and a fork", MORE, MORE_OUTPUT)
+    for path in (*(TOP / f"examples/{name}.trace" for name in EXAMPLES), OWN):
+        check_output(path)
     for refused in REFUSED:
         check_refused(*refused)
     check_without_cc()

@@ -3,7 +3,6 @@
 Kits of the same logic accept the same proofs, whatever their letter. A kit of another logic is named. Where no kit is
 installed that is said, and passed.
 """
-from __future__ import annotations
 
 import re
 import shutil

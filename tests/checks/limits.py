@@ -6,21 +6,18 @@ tools/vmatools names, and to answer as its model does. Of a file that is too lon
 read. Of N random maps texts, of which most have a byte, a word or a line that is wrong, `query` and `retrace` have to answer
 as tools/vmatools does, and what `retrace` writes has to come back by `serial`. Each run has its seconds of processor time.
 """
-from __future__ import annotations
 
 import argparse
 import os
 import random
 import tempfile
 
-from checking import Done, answer, bytes_of, check_ended, compare, fail, passed
+from checking import bytes_of, compare, expect, fail, passed
 
 from vmatools import traces
-from vmatools.profile import serial
 from vmatools.texts import maps_texts
-
-Answer = tuple[int, bytes, bytes]  # status, standard output, standard error
-Device = tuple[int, int]
+from vmatools.unproved import modes
+from vmatools.unproved.modes import Answer
 
 PAGE = traces.PAGE
 SECONDS = 60
@@ -28,42 +25,19 @@ HEAD = b"vmatrace 1\n"
 MOST = traces.LIMITS
 ANONYMOUS = "MAP_PRIVATE|MAP_ANONYMOUS|MAP_FIXED -1 0"
 NAMES = [b"/a"] * 8 + [b"/b c  d", b"[heap]", b"/t ", b"\t/t", b"/n\\012n", "/é".encode(), b"/nul\0", b"/cr\r", b"#c"]
-BYTES = [
-    b"\0",
-    b"\xff",
-    b"\t",
-    b"\r",
-    b" ",
-    b"0",
-    b"f",
-    b"F",
-    b"-",
-    b":",
-    b"\xed\xa0\x80",
-    b"\xf4\x90\x80\x80",
-    b"\xc0\xaf",
-    b"",
-    b"",
-]
-
-
-def ended(program: str, name: str, words: list[str], data: bytes) -> tuple[Done, float, int]:
-    """What a run answers that reads a file of these bytes, and how many of them it read."""
-    with tempfile.TemporaryFile() as source:
-        source.write(data)
-        source.seek(0)
-        done, took = answer(name, [program, *words], SECONDS, stdin=source)
-        return done, took, os.lseek(source.fileno(), 0, os.SEEK_CUR)
+BYTES = [*(bytes([letter]) for letter in b"\0\xff\t\r 0fF-:"), b"\xed\xa0\x80", b"\xf4\x90\x80\x80", b"\xc0\xaf", b"", b""]
 
 
 def check_run(
     program: str, name: str, words: list[str], data: bytes, wanted: Answer, most_read: int | None = None
 ) -> float:
-    """A run answers as is wanted: status, standard output, and standard error."""
-    name = f"{name}, {' '.join(words)}"
-    done, took, read = ended(program, name, words, data)
-    check_ended(name, done, wanted[0], wanted[2])
-    compare(f"{name}, standard output", done.stdout, wanted[1])
+    """A run over a file of these bytes answers as is wanted, and reads no more of it than it may; its processor time."""
+    name, (status, output, message) = f"{name}, {' '.join(words)}", wanted
+    with tempfile.TemporaryFile() as source:
+        source.write(data)
+        source.seek(0)
+        _, took = expect(name, [program, *words], SECONDS, status, message, output, stdin=source)
+        read = os.lseek(source.fileno(), 0, os.SEEK_CUR)
     if most_read is not None and read > most_read:
         fail(name, f"reads {read} bytes, and may read {most_read}")
     return took
@@ -72,27 +46,13 @@ def check_run(
 # Traces
 
 
-def modelled(data: bytes) -> tuple[Answer, int | None]:
-    """What `serial` answers by the model, and the line of the first fork."""
-    try:
-        trace = traces.read_trace(data)
-    except traces.BadLine as bad:
-        return (3, b"", f"trace {bad}\n".encode()), None
-    return (0, serial.serial_output(trace).encode(), b""), next(
-        (line.number for line in trace.lines if line.word == "fork"), None
-    )
-
-
 def check_trace(program: str, name: str, data: bytes, most_read: int | None = None) -> None:
     """A trace whose output is the same in each order of its threads."""
-    wanted, fork = modelled(data)
+    wanted = modes.serial(data)
     took = [check_run(program, name, [mode], data, wanted, most_read) for mode in ("serial", "threads")]
-    judged = wanted if wanted[0] else (0, b"legal\n", b"")
-    if fork:
-        judged = 3, b"", f"trace line {fork} cause 14 Child\n".encode()
-    # `check` reads both texts whole, and refuses a trace that forks at its first fork
-    if fork or (most_read is None and b" fork " not in data):
-        took.append(check_run(program, name, ["check"], data + b"==\n" + wanted[1], judged))
+    if most_read is None:  # `check` reads both texts whole
+        both = data + b"==\n" + wanted[1]
+        took.append(check_run(program, name, ["check"], both, modes.check(both)))
     passed(name, sum(took))
 
 
@@ -162,17 +122,11 @@ def check_children(program: str) -> None:
     unmapped = bytes_of(f"{child} munmap {place[child]:#x} 1" for child in range(1, 9))
     line = [f"{low:08x}-{low + PAGE:08x} r--p 00000000 00:00 0 " for low in place]
     output = [f"L{area + 2} t0 v{area + 1} = {low:#x}" for area, low in enumerate(place)]
-    output += [f"L{count + 1 + child} t0 v{count} = child {child} areas {count}" for child in range(1, 9)] + [
-        f"maps {count}",
-        *line,
-    ]
+    output += [f"L{count + 1 + child} t0 v{count} = child {child} areas {count}" for child in range(1, 9)]
+    output += [f"maps {count}", *line]
     for child in range(1, 9):
-        output += [
-            f"child {child} of L{count + 1 + child} v{count}",
-            f"L{count + 9 + child} t{child} v1 = 0",
-            f"maps {count - 1}",
-        ]
-        output += line[:child] + line[child + 1 :]
+        output += [f"child {child} of L{count + 1 + child} v{count}", f"L{count + 9 + child} t{child} v1 = 0"]
+        output += [f"maps {count - 1}", *line[:child], *line[child + 1 :]]
     for mode in ("serial", "threads"):
         took = check_run(program, "eight children", [mode], HEAD + made + forked + unmapped, (0, bytes_of(output), b""))
         passed(f"eight children, {mode}", took)
@@ -231,14 +185,8 @@ def drawn_line(draw: random.Random, low: int, high: int) -> bytes:
     end = 2**63 - PAGE - (high - low)
     offset = draw.choice([0, PAGE, 2 * PAGE, 3 * PAGE] * 6 + [end, end, end + PAGE, 2**64 - PAGE, 5])
     device = draw.choice([(8, 1)] * 12 + [(0xFFF, 0xFFFFF), (0x1000, 0), (0, 0x100000)])
-    front = b"%08x-%08x %s %08x %02x:%02x %d " % (
-        low,
-        high,
-        perms,
-        offset,
-        *device,
-        draw.choice([7, 7, 0, 2**64 - 1]),
-    )
+    inode = draw.choice([7, 7, 0, 2**64 - 1])
+    front = b"%08x-%08x %s %08x %02x:%02x %d " % (low, high, perms, offset, *device, inode)
     return front.ljust(72) + b" " + draw.choice(NAMES)
 
 
@@ -280,10 +228,9 @@ def check_drawn(program: str, runs: int) -> None:
         check_text(program, f"the random maps text {number}", text, address)
         status, trace, _ = maps_texts.retrace(text)
         if status == 0 and text:
-            done, _, _ = ended(program, f"what comes of the maps text {number}", ["serial"], trace)
-            compare(
-                f"the random maps text {number}, back", done.stdout.partition(b"maps ")[2].partition(b"\n")[2], text
-            )
+            done, _ = expect(f"what comes of the maps text {number}", [program, "serial"], SECONDS, input=trace)
+            back = done.stdout.partition(b"maps ")[2].partition(b"\n")[2]
+            compare(f"the random maps text {number}, back", back, text)
             came_back += 1
     passed(f"{runs} random maps texts, of which {came_back} came back")
 

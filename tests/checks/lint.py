@@ -5,7 +5,6 @@ definition of the kernel the name that the same thing has in the profile. No cra
 mypy has to find every function typed, and flake8 nothing, with the settings of pyproject.toml. What is not installed is named
 and passed (Debian packages mypy and flake8).
 """
-from __future__ import annotations
 
 import ast
 import re

@@ -5,7 +5,6 @@ Then random traces of all generators run on the running kernel, with a list afte
 kernel is of a version that was not run, it is said how many do, and nothing fails. Where no runner can be built, or a sandbox
 forbids it, a line says so.
 """
-from __future__ import annotations
 
 import argparse
 import itertools

@@ -1,5 +1,4 @@
 """Rules of Linux's model, each changed a little: what a wrong rule would be. The recorded vectors have to notice it."""
-from __future__ import annotations
 
 import importlib
 import re

@@ -5,7 +5,6 @@ docs/TOUR.md shows, a client that reads late, one that closes its end, a line th
 address spaces in the memory of one, an interruption, words behind the program's name, the clients of examples/live, the
 conformance suite by `vma conform --live`, and `vma compare --live`.
 """
-from __future__ import annotations
 
 import argparse
 import json

@@ -1,11 +1,10 @@
 """Runs the programs on small inputs with each request for memory refused in turn, and says what they answer.
 
-A small library, which cc compiles and the loader puts before the C library, makes the Nth malloc or realloc of a run fail,
-for N from 1 up to the number that a whole run makes. Each such run has to end with status 6, `no memory` on standard error
-and a beginning of the output, or as a run does of which nothing is refused (in `threads`, an output of the same lines). It is
-no part of the gate. Where cc is missing, a line says so.
+A small library, memory.c, which cc compiles and the loader puts before the C library, makes the Nth malloc or realloc of a
+run fail, for N from 1 up to the number that a whole run makes. Each such run has to end with status 6, `no memory` on
+standard error and a beginning of the output, or as a run does of which nothing is refused (in `threads`, an output of the
+same lines). It is no part of the gate. Where cc is missing, a line says so.
 """
-from __future__ import annotations
 
 import os
 import shutil
@@ -14,42 +13,9 @@ import sys
 import tempfile
 from collections import Counter
 
-from checking import Done, Options, fail, live_of, passed, skipped
+from failures import MAPS, called
 
-LIBRARY = r"""
-#define _GNU_SOURCE
-#include <dlfcn.h>
-#include <fcntl.h>
-#include <stdatomic.h>
-#include <stdlib.h>
-#include <sys/mman.h>
-
-/* How many requests were made, in a file, since the program ends without a destructor. */
-static atomic_long *made;
-static long refused;
-
-__attribute__((constructor)) static void begin(void) {
-    int file = open(getenv("MADE"), O_RDWR);
-    made = mmap(NULL, sizeof *made, PROT_READ | PROT_WRITE, MAP_SHARED, file, 0);
-    refused = atol(getenv("REFUSED"));
-}
-
-static int is_refused(void) {
-    return made && atomic_fetch_add(made, 1) + 1 == refused;
-}
-
-void *malloc(size_t size) {
-    static void *(*next)(size_t);
-    if (!next) next = (void *(*)(size_t))dlsym(RTLD_NEXT, "malloc");
-    return is_refused() ? NULL : next(size);
-}
-
-void *realloc(void *old, size_t size) {
-    static void *(*next)(void *, size_t);
-    if (!next) next = (void *(*)(void *, size_t))dlsym(RTLD_NEXT, "realloc");
-    return is_refused() ? NULL : next(old, size);
-}
-"""
+from checking import TOP, Done, Options, fail, live_of, passed, skipped
 
 TRACE = b"""vmatrace 1
 limit areas 8
@@ -63,9 +29,6 @@ file 3 r 8192 08:02 7 /usr/lib/libdemo.so
 0 munmap 0x10000 4096
 """
 SCRIPT = b"vmasteps 1\nlock 1 1\nbegin\nend 0 munmap 0x1000 4096\n"
-MAPS = b"""00010000-00012000 rw-p 00000000 00:00 0 
-00012000-00014000 r--p 00000000 08:02 7                                  /usr/lib/libdemo.so
-"""
 JUDGED = b"""vmatrace 1
 limit areas 8
 0 mmap 0x10000 8192 PROT_READ MAP_PRIVATE|MAP_ANONYMOUS|MAP_FIXED -1 0
@@ -107,9 +70,7 @@ def is_right(done: Done, whole: Done, words: list[str]) -> bool:
     """Whether a run gave the whole output, or was out of memory and gave a beginning of it; that of `threads` varies."""
     if done.returncode == 0:
         return done.stdout == whole.stdout or words == ["threads"] and lines_of(done.stdout) == lines_of(whole.stdout)
-    begins = (
-        whole.stdout.startswith(done.stdout) or words == ["threads"] and lines_of(done.stdout) <= lines_of(whole.stdout)
-    )
+    begins = whole.stdout.startswith(done.stdout) or words == ["threads"] and lines_of(done.stdout) <= lines_of(whole.stdout)
     return begins and (done.returncode, done.stderr) == (6, b"no memory\n")
 
 
@@ -119,9 +80,8 @@ def check(options: Options) -> None:
         return skipped("all", "there is no `cc`, which compiles the library that refuses")
     session = live_of(options.live)
     with tempfile.TemporaryDirectory() as folder:
-        source, library, counted = (os.path.join(folder, name) for name in ("refuse.c", "refuse.so", "made"))
-        with open(source, "w") as file:
-            file.write(LIBRARY)
+        library, counted = os.path.join(folder, "refuse.so"), os.path.join(folder, "made")
+        source = TOP / "tests/checks/memory.c"
         subprocess.run(["cc", "-shared", "-fPIC", "-O1", "-o", library, source, "-ldl"], check=True)
         for words, text in RUNS:
             check_mode(program, words, text, library, counted)
@@ -130,7 +90,7 @@ def check(options: Options) -> None:
 
 def check_mode(program: str, words: list[str], text: bytes, library: str, counted: str) -> None:
     """One mode, with each of its requests refused in turn."""
-    name = " ".join(words) or "a session"
+    name = called(words)
     whole, made = run(program, words, text, library, 0, counted)
     if whole.returncode:
         fail(name, f"has status {whole.returncode} with nothing refused")

@@ -1,5 +1,4 @@
 """The tables of documents beside the sources: the rows of each call, the numbers of the profile, and the flags."""
-from __future__ import annotations
 
 import re
 import sys

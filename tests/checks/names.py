@@ -1,5 +1,4 @@
 """Which public names of `specs/` stand twice, and which crates cite what another keeps for itself."""
-from __future__ import annotations
 
 import re
 from collections import defaultdict

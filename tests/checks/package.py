@@ -5,7 +5,6 @@ on all cases, compare, explain, draw, new-adapter and man. The completion is one
 the tools and the suite. Where this is root and may mount, apt-get installs the package over a copy of this system, and
 removes it again.
 """
-from __future__ import annotations
 
 import importlib.util
 import os

@@ -5,7 +5,6 @@ The words: the descriptor to which the KiB are written, the bytes of address spa
 ends as the command does, or with 128 plus the number of the signal that ended it. A process is counted with what it has
 from the one that made it, so this one is small: some 5 MiB, below which nothing is told.
 """
-from __future__ import annotations
 
 import os
 import resource

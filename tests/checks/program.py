@@ -1,23 +1,25 @@
 """Runs the program on the largest traces, loads and scripts, on threads that wait for each other and on what it refuses,
 and compares all that it answers.
 
-The script works out for itself what each run writes to standard output and standard error, and its status. In the mode
-`threads` a trace of one thread has the output of `serial`; of one of many threads each line is answered once, those of a
-thread in their order, and the versions never fall, and children run at once. A load as a trace has an output that `check`
-judges to be legal, a smaller one that of the model of tools/vmatools, and `generate` has to count in it what stands there.
+The script works out for itself what each run writes to standard output and standard error, and its status; of scripts the
+model of tools/vmatools says it. In the mode `threads` a trace of one thread has the output of `serial`; of one of many
+threads each line is answered once, those of a thread in their order, and the versions never fall, and children run at once. A
+load as a trace has an output that `check` judges to be legal, a smaller one that of the model of tools/vmatools, and
+`generate` has to count in it what stands there.
 The seconds are some fifty times what a run needs, and fewer than it would need with work quadratic in its lines.
 """
-from __future__ import annotations
 
 import os
 import subprocess
 import tempfile
 import time
+from collections.abc import Iterator
 
-from checking import Options, Words, answer, bytes_of, check_ended, compare, fail, passed, skipped
+from checking import Options, Words, bytes_of, compare, expect, fail, passed, skipped
 
 from vmatools import traces
 from vmatools.profile import loads, serial
+from vmatools.unproved import scripts
 
 PAGE = 4096
 OPERATIONS = 1_000_000
@@ -110,22 +112,19 @@ def check_run(
     program: str,
     name: str,
     words: Words,
-    status: int,
+    status: int = 0,
     message: bytes = b"",
     output: bytes = b"",
     seconds: int = 10,
     trace: bytes = b"vmatrace 1\n",
 ) -> None:
-    done, took = answer(name, [program, *words], seconds, input=trace)
-    check_ended(name, done, status, message)
-    compare(f"{name}, standard output", done.stdout or b"", output)
+    _, took = expect(name, [program, *words], seconds, status, message, output, input=trace)
     passed(name, took)
 
 
 def check_threads(program: str, name: str, trace: list[str], seconds: int) -> None:
     """In `threads` each line is answered once, those of a thread in order, and the versions never fall."""
-    done, took = answer(name, [program, "threads"], seconds, input=bytes_of(trace))
-    check_ended(name, done, 0)
+    done, took = expect(name, [program, "threads"], seconds, input=bytes_of(trace))
     wanted = {f"L{n} t{line.split()[0]}" for n, line in enumerate(trace, 1) if line[0].isdigit()}
     last: dict[str, int] = {}
     version = found = 0
@@ -147,27 +146,10 @@ def check_threads(program: str, name: str, trace: list[str], seconds: int) -> No
 
 def check_words(program: str) -> None:
     """Only the words that the README names are accepted, and none besides them."""
-    refused: list[list[str | bytes]] = [
-        [],
-        ["serial", "serial"],
-        ["threads", "serial"],
-        ["serial", "x"],
-        ["steps", "1"],
-        ["retrace", "0"],
-        ["check", "x"],
-        [""],
-        ["--help"],
-        ["query"],
-        ["query", "x"],
-        ["query", "0", "0"],
-        ["generate"],
-        ["generate", "10"],
-        ["generate", "10", "1", "extra"],
-        ["generate", "10", "1", "extra", "words"],
-        ["generate", "400001", "0"],
-        ["generate", "0", str(2**64)],
-        ["serial", b"\xff"],
-    ]
+    lines = """serial serial|threads serial|serial x|steps 1|retrace 0|check x|--help|query|query x|query 0 0|generate|generate 10
+        |generate 10 1 extra|generate 10 1 extra words|generate 400001 0|generate 0 18446744073709551616"""
+    refused: list[list[str | bytes]] = [[], [""], ["serial", b"\xff"]]
+    refused += [[*line.split()] for line in lines.split("|")]
     for words in refused:
         check_run(program, f"the words {words}", words, 2, b"words\n")
 
@@ -183,130 +165,50 @@ def check_summaries(program: str) -> None:
         names = ("calls", "refused", "faults", "served", "version", "areas")
         output = bytes_of(f"{name} {number}" for name, number in zip(names, numbers))
         for run in ("", ", once more"):
-            check_run(program, f"generate {count} {seed}{run}", ["generate", str(count), str(seed)], 0, output=output)
+            check_run(program, f"generate {count} {seed}{run}", ["generate", str(count), str(seed)], output=output)
 
 
 def check_load(program: str, count: int, seed: int, seconds: int, judges: bool) -> None:
     """A generated trace as lines has in `serial` an output that is legal, and `generate` has the summary of it, each time."""
     name, trace = f"the load {count} {seed}", bytes_of(loads.load(count, seed))
-    done, took = answer(name, [program, "serial"], seconds, input=trace)
-    check_ended(name, done, 0)
+    done, took = expect(name, [program, "serial"], seconds, input=trace)
     passed(f"{name}, serial", took)
-    output = done.stdout.decode().splitlines()
-    check_run(
-        program,
-        f"{name}, judged",
-        ["check"],
-        0,
-        output=b"legal\n",
-        trace=trace + b"==\n" + done.stdout,
-        seconds=seconds,
-    )
+    both = trace + b"==\n" + done.stdout
+    check_run(program, f"{name}, judged", ["check"], output=b"legal\n", trace=both, seconds=seconds)
     if judges:
         compare(f"{name}, by the model", done.stdout, serial.serial_output(traces.read_trace(trace)).encode())
         passed(f"{name}, by the model")
+    summary = bytes_of(loads.summary(done.stdout.decode().splitlines()))
     for words in ([str(count), str(seed)], [str(count).zfill(20), str(seed).zfill(20)]):
-        check_run(
-            program,
-            f"generate {' '.join(words)}",
-            ["generate", *words],
-            0,
-            output=bytes_of(loads.summary(output)),
-            seconds=seconds,
-        )
+        check_run(program, f"generate {' '.join(words)}", ["generate", *words], output=summary, seconds=seconds)
+
+
+def turns(count: int) -> Iterator[str]:
+    """A row is published in the place of the other, in turn. A reader opens, loads the root, closes and is scanned."""
+    for tree in range(count):
+        new = 1 - tree % 2
+        yield from ("open 0", "root 0", f"fill {new} {tree}", f"publish {tree + 1} {new}", "close 0", "scan 0")
 
 
 def check_scripts(program: str) -> None:
     """The longest scripts: as many lines as one may have, each as long as a line may be, and a line more."""
-    for made in (lock_script, calls_script, grace_script, trees_script):
-        script, output = made()
-        for name, lines in (
-            (made.__name__, script),
-            (f"{made.__name__}, as wide as it may be", [line.ljust(LINE_BYTES) for line in script]),
-        ):
-            lines[0] = "vmasteps 1"
-            check_run(program, name, ["steps"], 0, output=bytes_of(output), trace=bytes_of(lines), seconds=30)
-            check_run(
-                program,
-                f"{name}, a line more",
-                ["steps"],
-                3,
-                f"trace line {SCRIPT_LINES + 1} cause 8 TooMany\n".encode(),
-                trace=bytes_of([*lines, "#"]),
-                seconds=30,
-            )
-
-
-def lock_script() -> tuple[list[str], list[str]]:
-    """A reader looks and leaves while calls are made: each call marks the slot and unmaps what was not mapped."""
-    script, seq, version, found = ["vmasteps 1", "lock 1 1"], 2, 0, 0
-    output: list[str] = []
-    while len(script) + 6 <= SCRIPT_LINES:
-        marked = seq + 1
-        for line, result, shown in (
-            ("add 0 0", f"found {found}", f"S {seq} M 0:{found}/1"),
-            ("look 0", f"seq {seq} version {version}", f"S {seq} M 0:{found}/1"),
-            ("sub 0", "ok", f"S {seq} M 0:{found}/0"),
-            ("begin", "ok", f"S {marked} M 0:{found}/0"),
-            ("mark 0", "ok", f"S {marked} M 0:{marked}/0"),
-            ("end 0 munmap 0x1000 4096", "ok", f"S {marked + 1} M 0:{marked}/0"),
-        ):
-            script.append(line)
-            output.append(f"L{len(script)} {result} | {shown}")
-        seq, version, found = marked + 1, version + 1, marked
-    return [*script, *["#"] * (SCRIPT_LINES - len(script))], output
-
-
-def calls_script() -> tuple[list[str], list[str]]:
-    """As many calls as a script may have, each of which unmaps what was not mapped."""
-    script, seq = ["vmasteps 1", "lock 1 1"], 2
-    output: list[str] = []
-    while len(script) + 2 <= SCRIPT_LINES:
-        for line in ("begin", "end 0 munmap 0x1000 4096"):
-            script.append(line)
-            seq += 1
-            output.append(f"L{len(script)} ok | S {seq} M 0:0/0")
-    return script, output
-
-
-def grace_script() -> tuple[list[str], list[str]]:
-    """A row is published in the place of the other, in turn. A reader opens, loads the root, closes and is scanned."""
-    script, tree, pin = ["vmasteps 1", "grace 1 2"], 0, 0
-    output: list[str] = []
-    while len(script) + 6 <= SCRIPT_LINES:
-        old, new = tree % 2, (tree + 1) % 2
-        before, after, waits = (
-            f"T {number} root {number % 2} P 0:{{}} {rest}"
-            for number, rest in (
-                (tree, f"free {new} wait"),
-                (tree + 1, f"free {old} wait"),
-                (tree + 1, f"free wait {old}"),
-            )
-        )
-        for line, result, shown in (
-            ("open 0", "ok", before.format(pin + 1)),
-            ("root 0", f"tree {tree} row {old}", before.format(pin + 1)),
-            (f"fill {new} {tree}", "ok", before.format(pin + 1)),
-            (f"publish {tree + 1} {new}", "ok", waits.format(pin + 1)),
-            ("close 0", "ok", waits.format(pin + 2)),
-            ("scan 0", f"pin {pin + 2}", after.format(pin + 2)),
-        ):
-            script.append(line)
-            output.append(f"L{len(script)} {result} | {shown}")
-        tree, pin = tree + 1, pin + 2
-    return [*script, *["#"] * (SCRIPT_LINES - len(script))], output
-
-
-def trees_script() -> tuple[list[str], list[str]]:
-    """As many trees as a script may have, each of one row, and at last a reader that loads the root."""
-    script, tree = ["vmasteps 1", "grace 1 2", "open 0"], 0
-    output = ["L3 ok | T 0 root 0 P 0:1 free 1 wait"]
-    while len(script) + 1 < SCRIPT_LINES:
-        tree += 1
-        script.append(f"publish {tree} 0")
-        output.append(f"L{len(script)} ok | T {tree} root 0 P 0:1 free 1 wait")
-    output.append(f"L{SCRIPT_LINES} tree {tree} row 0 | T {tree} root 0 P 0:1 free 1 wait")
-    return [*script, "root 0"], output
+    looks = ["add 0 0", "look 0", "sub 0", "begin", "mark 0", "end 0 munmap 0x1000 4096"]
+    trees = [f"publish {tree} 0" for tree in range(1, SCRIPT_LINES - 3)]
+    for name, script in (
+        ("a reader beside calls", ["lock 1 1", *looks * ((SCRIPT_LINES - 2) // 6)]),
+        ("the most calls", ["lock 1 1", *["begin", "end 0 munmap 0x1000 4096"] * (SCRIPT_LINES // 2 - 1)]),
+        ("a reader beside two rows that take turns", ["grace 1 2", *turns((SCRIPT_LINES - 2) // 6)]),
+        ("the most trees", ["grace 1 2", "open 0", *trees, "root 0"]),
+    ):
+        script += ["#"] * (SCRIPT_LINES - 1 - len(script))
+        output = scripts.steps(bytes_of(["vmasteps 1", *script]))[1]
+        if b"refused" in output:
+            fail(name, "an event is refused")
+        for width, what in ((0, name), (LINE_BYTES, f"{name}, as wide as it may be")):
+            text = bytes_of(["vmasteps 1", *(line.ljust(width) for line in script)])
+            check_run(program, what, ["steps"], output=output, trace=text, seconds=30)
+            refused = f"trace line {SCRIPT_LINES + 1} cause 8 TooMany\n".encode()
+            check_run(program, f"{what}, a line more", ["steps"], 3, refused, trace=text + b"#\n", seconds=30)
 
 
 def check_all_at_once(program: str) -> None:
@@ -317,20 +219,13 @@ def check_all_at_once(program: str) -> None:
         run.call(thread, f"mmap {place:#x} 4096 PROT_READ {ANONYMOUS} -1 0{after}", f"{place:#x}")
     last = len(run.trace)
     for thread in range(THREADS):
-        place, after = (
-            0x10000000 + 2 * PAGE * ((thread + 1) % THREADS),
-            f" after={last}" if thread + 1 < THREADS else "",
-        )
+        place, after = 0x10000000 + 2 * PAGE * ((thread + 1) % THREADS), f" after={last}" if thread + 1 < THREADS else ""
         run.read(thread, f"fault {place:#x} r{after}", f"served {place:08x}-{place + PAGE:08x} r--p page 0")
-    lines = [
-        f"{0x10000000 + 2 * PAGE * area:08x}-{0x10000000 + 2 * PAGE * area + PAGE:08x} r--p 00000000 00:00 0 "
-        for area in range(THREADS)
-    ]
-    run.output += [f"maps {THREADS}", *lines]
+    places = (0x10000000 + 2 * PAGE * area for area in range(THREADS))
+    run.output += [f"maps {THREADS}", *(f"{place:08x}-{place + PAGE:08x} r--p 00000000 00:00 0 " for place in places)]
     name, trace, output = "threads that wait for each other", bytes_of(run.trace), bytes_of(run.output)
-    check_run(program, f"{name}, serial", ["serial"], 0, output=output, trace=trace)
-    for _ in range(10):
-        check_run(program, f"{name}, threads", ["threads"], 0, output=output, trace=trace)
+    for mode in ("serial", *["threads"] * 10):
+        check_run(program, f"{name}, {mode}", [mode], output=output, trace=trace)
 
 
 def tasks_of(process: int) -> int:
@@ -382,76 +277,42 @@ def waits() -> list[str]:
 def check_largest(program: str) -> None:
     """The largest traces: in `serial`, judged, and in `threads`."""
     for made, seconds in ((areas, 5), (operations, 60)):
-        run = made()
-        check_run(
-            program,
-            f"{made.__name__}, serial",
-            ["serial"],
-            0,
-            output=bytes_of(run.output),
-            trace=bytes_of(run.trace),
-            seconds=seconds,
-        )
-        both, count = bytes_of([*run.trace, "==", *run.output]), bytes_of(run.output).count(b"\n")
-        check_run(program, f"{made.__name__}, judged", ["check"], 0, output=b"legal\n", trace=both, seconds=seconds)
-        for name, given, line in (
-            ("without the last newline", both[:-1], count),
-            ("with one line more", both + b"maps 0\n", count + 1),
+        run, name = made(), made.__name__
+        trace, output = bytes_of(run.trace), bytes_of(run.output)
+        check_run(program, f"{name}, serial", ["serial"], output=output, trace=trace, seconds=seconds)
+        both, count = trace + b"==\n" + output, output.count(b"\n")
+        for what, given, said in (
+            ("", both, "legal"),
+            (" without the last newline", both[:-1], f"bad {count}"),
+            (" with one line more", both + b"maps 0\n", f"bad {count + 1}"),
         ):
-            check_run(
-                program,
-                f"{made.__name__}, judged {name}",
-                ["check"],
-                0,
-                output=f"bad {line}\n".encode(),
-                trace=given,
-                seconds=seconds,
-            )
+            check_run(program, f"{name}, judged{what}", ["check"], output=bytes_of([said]), trace=given, seconds=seconds)
         if made is areas:
-            check_run(
-                program,
-                "areas, threads",
-                ["threads"],
-                0,
-                output=bytes_of(run.output),
-                trace=bytes_of(run.trace),
-                seconds=seconds,
-            )
+            check_run(program, "areas, threads", ["threads"], output=output, trace=trace, seconds=seconds)
         else:
-            check_threads(program, made.__name__, run.trace, seconds)
+            check_threads(program, name, run.trace, seconds)
 
 
 def check(options: Options) -> None:
     program: str = options.program
     check_words(program)
-    check_run(
-        program, "a bad trace", ["serial"], 3, b"trace line 3 cause 3 Word\n", trace=b"vmatrace 1\n0 maps\n0 map\n"
-    )
+    check_run(program, "a bad trace", ["serial"], 3, b"trace line 3 cause 3 Word\n", trace=b"vmatrace 1\n0 maps\n0 map\n")
     # A reader that holds the slot keeps a call from marking it; the script without its last newline is none.
-    script = ["vmasteps 1", "lock 1 1", "add 0 0", "begin", "mark 0"]
-    text = ["L3 found 0 | S 2 M 0:0/1", "L4 ok | S 3 M 0:0/1", "L5 refused 2 ReadersLeft 1 | S 3 M 0:0/1"]
-    check_run(program, "a script", ["steps"], 0, output=bytes_of(text), trace=bytes_of(script))
-    check_run(program, "a bad script", ["steps"], 3, b"trace line 5 cause 11 NoEnd\n", trace=bytes_of(script)[:-1])
+    script = b"vmasteps 1\nlock 1 1\nadd 0 0\nbegin\nmark 0\n"
+    text = b"L3 found 0 | S 2 M 0:0/1\nL4 ok | S 3 M 0:0/1\nL5 refused 2 ReadersLeft 1 | S 3 M 0:0/1\n"
+    check_run(program, "a script", ["steps"], output=text, trace=script)
+    check_run(program, "a bad script", ["steps"], 3, b"trace line 5 cause 11 NoEnd\n", trace=script[:-1])
     check_scripts(program)
     check_summaries(program)
     check_load(program, 20_000, 1, 10, judges=True)
     check_load(program, 400_000, 1, 60, judges=False)
     check_run(program, "no text to judge", ["check"], 3, b"trace line 2 cause 11 NoEnd\n")
-    check_run(program, "an empty text", ["check"], 0, output=b"bad 1\n", trace=b"vmatrace 1\n==\n")
-    check_run(
-        program,
-        "a text of bytes of any kind",
-        ["check"],
-        0,
-        output=b"bad 1\n",
-        trace=b"vmatrace 1\n==\n" + bytes(range(256)),
-    )
-    largest = b"vmatrace 1\n==\n" + bytes(TEXT_BYTES)
-    check_run(program, "the longest text", ["check"], 0, output=b"bad 1\n", trace=largest)
-    check_run(program, "a byte more", ["check"], 3, b"trace line 3 cause 2 TooLong\n", trace=largest + b"\0")
-    check_run(
-        program, "many bytes more", ["check"], 3, b"trace line 3 cause 2 TooLong\n", trace=largest + bytes(100_000_000)
-    )
+    head = b"vmatrace 1\n==\n"
+    largest, too_long = head + bytes(TEXT_BYTES), b"trace line 3 cause 2 TooLong\n"
+    for name, given in (("an empty text", head), ("bytes of any kind", head + bytes(range(256))), ("the longest text", largest)):
+        check_run(program, name, ["check"], output=b"bad 1\n", trace=given)
+    for name, more in (("a byte more", 1), ("many bytes more", 100_000_000)):
+        check_run(program, name, ["check"], 3, too_long, trace=largest + bytes(more))
     check_all_at_once(program)
     check_children_at_once(program)
     check_threads(program, "a writer beside seven readers of one page", waits(), 60)

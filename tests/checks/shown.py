@@ -3,7 +3,6 @@
 A line has three parts: `PROMISE | KIND | WHERE`. One that is empty or begins with `#` is passed over. A promise that names a
 call in backquotes, as `history::check`, is about one that can find no memory: what the line names makes it with enough.
 """
-from __future__ import annotations
 
 import re
 from collections.abc import Iterable, Iterator

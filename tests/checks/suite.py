@@ -3,7 +3,6 @@ table of docs/MODEL.md decides two cases or more; each test of the model, change
 that no case has to notice are noticed by no random trace either; and each answer of Linux that differs has a row of
 docs/KERNEL.md.
 """
-from __future__ import annotations
 
 import argparse
 import re

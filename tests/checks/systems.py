@@ -4,7 +4,6 @@ What a system answers otherwise is no failure: how much of it is equal is printe
 passed. It fails where the runner does not compile without a warning, where an adapter of examples/batch does not answer as it
 should, or where a trace that was fitted to a window is refused for leaving it.
 """
-from __future__ import annotations
 
 import argparse
 import contextlib

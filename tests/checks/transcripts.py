@@ -14,7 +14,6 @@ each fenced block of a page
 A line `..` stands for any lines, and ` ..` at the end of a line for any end. Each command `tools/vma ..` in a page, shown
 or told, has words that the tool takes.
 """
-from __future__ import annotations
 
 import contextlib
 import io

@@ -3,7 +3,6 @@
 Each block of YAML has to be one. Steps that install or fetch something are named and passed over; the others are run, for a
 few seconds in place of minutes, and leave reports in XML. Each check that a workflow of this repository names is one.
 """
-from __future__ import annotations
 
 import importlib.util
 import re

@@ -3,7 +3,6 @@
 Beside NAME.trace is NAME.out, what `serial` gives for it. In the group `threads`, NAME.legal has each legal output. Where
 Linux answers otherwise, NAME.linux has what kernels answered.
 """
-from __future__ import annotations
 
 import re
 from collections.abc import Iterator, Mapping

@@ -1,5 +1,4 @@
 """Random traces for the changes of the model that no case notices: of three kinds, each by a seed."""
-from __future__ import annotations
 
 import random
 from collections.abc import Iterator

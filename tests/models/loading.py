@@ -1,5 +1,4 @@
 """What tests load: programs of the repository, whose files have no ending, and programs that may not be installed."""
-from __future__ import annotations
 
 import importlib.util
 import shutil

@@ -4,19 +4,20 @@ A change is one of these: a test of a call left out, two tests in the other orde
 or less, an equality turned round, a part of a condition left out, a number that is one more or one less, one side alone
 of a choice, of a minimum or of a maximum, and an attribute that neighbours need not agree in. So a boundary without a
 case is a change that nobody notices, and so are a pair of tests whose order no case shows, and a merge that no case has.
-`ALIKE` has the changes that change no answer, and why.
+alike.txt has the changes that change no answer, and why.
 """
-from __future__ import annotations
 
 import ast
 import copy
 import functools
 import inspect
+import re
 import signal
 import types
 from collections import Counter
 from collections.abc import Iterator, Sequence
 from dataclasses import dataclass
+from pathlib import Path
 
 from models.drawn import traces_of
 from vmatools import model
@@ -37,66 +38,14 @@ NEAR: dict[type[ast.cmpop], type[ast.cmpop]] = {
 # What is no rule of a call: how rows are counted, and how lines are written. Of `joins` each attribute is left out.
 LEFT_OUT = ("note", "by", "maps", "maps_line", "permissions", "answer", "reply_text", "child", "joins")
 
-# The changes that change no answer, by why they don't. That rests on three things. The reasons were read, and nothing proves
-# them. No case of the suite notices one of these changes (`tests/run suite`). No random trace of drawn.py did: none of the first
-# 20,000 of `generate 30 SEED`, of 15,000 of profiles, and of 14,500 of edges. `tests/run suite` tries 60 of each kind again
-# (`tests/run suite -- --random N`). Of the 352 other changes the traces of the first 1,000 seeds notice 337.
-ALIKE: dict[str, tuple[str, ...]] = {
-    "no call comes here with an empty range, or an empty range changes nothing": (
-        "areas_in: `areas[first_above(areas, lo):bisect.bisect_left(areas, (hi,))] if lo < hi else []`"
-        " as `areas[first_above(areas, lo):bisect.bisect_left(areas, (hi,))]`",
-        "areas_in: `lo < hi` as `lo <= hi`",
-        "changed: without the test `lo == hi`",
-        "mprotect: without the test `length == 0`",
-        "mremap: `self.replaced(self.areas, old + news, old_end, []) if news < olds else self.areas`"
-        " as `self.replaced(self.areas, old + news, old_end, [])`",
-        "mremap: `news < olds` as `news <= olds`",
-        "mseal: without the test `length == 0`",
-    ),
-    "both tests never hold at once": (
-        "mmap_refusal: the test `pages > self.limit` before `length == 0`",
-        "mprotect: the test `end * PAGE >= 2 ** 64` before `length == 0`",
-        "mseal: the test `length == 0` before `end * PAGE >= 2 ** 64`",
-        "mseal: the test `sum((min(area.hi, end) - max(area.lo, start) for area in areas_in(self.areas, start, end)))"
-        " < end - start` before `length == 0`",
-    ),
-    "both sides are equal in no call": (
-        "mmap_refusal: `offset + PAGE * pages > 2 ** 63 - 1` as `offset + PAGE * pages >= 2 ** 63 - 1`",
-        "mmap_refusal: `2 ** 63 - 1` as `2 ** 63 - 2`",
-        "brk: `new < old` as `new <= old`",
-    ),
-    "it is found either way": (
-        "first_above: `page + 1` as `page + 0`",
-        "replaced: `max(begin - 1, 0)` as `0`",
-        "replaced: `begin - 1` as `begin - 2`",
-        "stop_of: `min(area.hi, end)` as `area.hi`",
-    ),
-    "the rest of the test says so too": (
-        "grower: `above and above.grows and (above.lo == page + 1) and (page >= self.min)"
-        " and is_free(self.areas, page - 1, page + 1)`"
-        " as `above and above.grows and (page >= self.min) and is_free(self.areas, page - 1, page + 1)`",
-        "brk: `self.replaced(self.areas, old, new, [heap]) if has_room else self.areas`"
-        " as `self.replaced(self.areas, old, new, [heap])`",
-        "place: `start is None and which == 'window'` as `start is None`",
-        "joins: whatever `most` is",
-    ),
-    "it says which row decides, which is counted and not answered": (
-        "keep: `len(areas) == self.most_areas` as `len(areas) != self.most_areas`",
-        "place: `which == 'high'` as `which != 'high'`",
-        "place: `'high-search' if which == 'high' else 'first-search'` as `'high-search'`",
-        "place: `'high-search' if which == 'high' else 'first-search'` as `'first-search'`",
-        "place: `start is None` as `start is not None` (2)",
-        "place: `f'placement/{which}-none' if start is None else f'placement/{row}'` as `f'placement/{which}-none'`",
-        "place: `f'placement/{which}-none' if start is None else f'placement/{row}'` as `f'placement/{row}'`",
-        "mremap: `'mremap/to-place' if to_fixed else 'mremap/longer-elsewhere'` as `'mremap/to-place'`",
-        "mremap: `'mremap/to-place' if to_fixed else 'mremap/longer-elsewhere'` as `'mremap/longer-elsewhere'`",
-        "brk: `not refusal and len(after) > self.most_areas` as `len(after) > self.most_areas`",
-        "brk: `refusal or row` as `row`",
-        "brk: `refusal or row` as `refusal`",
-        "brk: `'brk/no-heap' if not self.heap else 'brk/below-heap'` as `'brk/no-heap'`",
-        "brk: `'brk/no-heap' if not self.heap else 'brk/below-heap'` as `'brk/below-heap'`",
-    ),
-}
+
+def alike() -> set[str]:
+    """The changes that change no answer: those of the file, which says why they don't."""
+    text = Path(__file__).with_name("alike.txt").read_text(encoding="utf-8")
+    return {line for part in re.split(r"^== ", text, flags=re.M)[1:] for line in part.splitlines()[1:] if line}
+
+
+ALIKE = alike()
 
 
 @dataclass(frozen=True)
@@ -256,8 +205,7 @@ def is_noticed(change: Change, cases: Sequence[tuple[Trace, str]]) -> bool:
 @functools.cache
 def changes_alike() -> list[Change]:
     """The changes of `ALIKE`."""
-    alike = {where for some in ALIKE.values() for where in some}
-    return [change for change in changes(inspect.getsource(model)) if change.where in alike]
+    return [change for change in changes(inspect.getsource(model)) if change.where in ALIKE]
 
 
 def noticed_at_random(seeds: range) -> list[str]:
@@ -269,10 +217,10 @@ def noticed_at_random(seeds: range) -> list[str]:
 def unnoticed(cases: Sequence[Trace]) -> Iterator[str]:
     """The changes that no case notices, and those of `ALIKE` that one does, or that are none."""
     pairs = [(trace, serial_output(trace)) for trace in cases]
-    alike = {where for some in ALIKE.values() for where in some}
+    left = set(ALIKE)
     for change in changes(inspect.getsource(model)):
-        is_alike = change.where in alike
+        is_alike = change.where in ALIKE
         if is_noticed(change, pairs) == is_alike:
             yield f"{change.where}: a case notices it" if is_alike else f"{change.where}: no case notices it"
-        alike.discard(change.where)
-    yield from (f"{where}: the model has no such change" for where in sorted(alike))
+        left.discard(change.where)
+    yield from (f"{where}: the model has no such change" for where in sorted(left))

@@ -34,8 +34,11 @@ ERRORS = [row for row in coverage.ROWS if row.split("/")[0] in CALLS and row.spl
 
 
 class Call(Space):
-    """A model that knows which call is made, with which arguments, and what was before it."""
+    """A model that knows which call is made, with which arguments, and what was before it; and whether that is one of the calls
+    in a state in which it is to be wrong."""
 
+    wrong_call, is_now = "", False
+    state: Callable[[Call], Any] = staticmethod(lambda space: False)
     call, start, end = "", 0, 0  # the call, and the first and the last page of its range
     arguments: tuple[Any, ...] = ()
     row, count = "", 0
@@ -59,10 +62,11 @@ class Call(Space):
         length = arguments[1] if len(arguments) > 1 else PAGE
         self.call, self.arguments, self.start = name, arguments, arguments[0] // PAGE
         self.end = min(self.start + pages_of(length), self.limit)
+        self.is_now = name == self.wrong_call and bool(type(self).state(self))
         try:
             return getattr(super(), name)(*arguments)
         finally:
-            self.call, self.before, self.count = "", self.row, self.count + 1
+            self.call, self.is_now, self.before, self.count = "", False, self.row, self.count + 1
 
 
 def calling(name: str) -> Callable[..., Any]:
@@ -71,6 +75,17 @@ def calling(name: str) -> Callable[..., Any]:
 
 for word in CALLS:
     setattr(Call, word, calling(word))
+
+
+def split_at(areas: list[Area], border: int, number: int, worse: Callable[[Area, Area], Area]) -> list[Area]:
+    """The list in which an area that goes over a border is two, of which one is worse than it should be."""
+    place = next((place for place, area in enumerate(areas) if area.lo < border < area.hi), None)
+    if place is None:
+        return areas
+    whole = areas[place]
+    pieces = [model.piece(whole, whole.lo, border), model.piece(whole, border, whole.hi)]
+    pieces[number] = worse(pieces[number], whole)
+    return areas[:place] + pieces + areas[place + 1 :]
 
 
 class Wrong(NamedTuple):
@@ -88,14 +103,9 @@ def lost_beside(call: str, part: str, attribute: str) -> type[Space]:
 
     class Losing(Call):
         def replaced(self, areas: list[Area], lo: int, hi: int, middle: list[Area]) -> list[Area]:
-            border = lo if part == "below" else hi
-            split = next((area for area in areas if area.lo < border < area.hi), None)
-            if self.call == call and split:
-                place = areas.index(split)
-                pieces = [model.piece(split, split.lo, border), model.piece(split, border, split.hi)]
-                number = 0 if part == "below" else 1
-                pieces[number] = pieces[number]._replace(**{attribute: LOST[attribute]})
-                areas = areas[:place] + pieces + areas[place + 1 :]
+            border, number = (lo, 0) if part == "below" else (hi, 1)
+            if self.call == call:
+                areas = split_at(areas, border, number, lambda piece, _: piece._replace(**{attribute: LOST[attribute]}))
             return super().replaced(areas, lo, hi, middle)
 
     return Losing
@@ -268,25 +278,7 @@ STATES: dict[str, Callable[[Call], Any]] = {
 }
 
 
-class Late(Call):
-    """A model whose calls are wrong in one state."""
-
-    wrong_call = ""
-    state: Callable[[Call], Any] = staticmethod(lambda space: False)
-    is_now = False
-
-    def made(self, name: str, arguments: tuple[Any, ...]) -> Any:
-        length = arguments[1] if len(arguments) > 1 else PAGE
-        self.arguments, self.start = arguments, arguments[0] // PAGE
-        self.end = min(self.start + pages_of(length), self.limit)
-        self.is_now = name == self.wrong_call and bool(type(self).state(self))
-        try:
-            return super().made(name, arguments)
-        finally:
-            self.is_now = False
-
-
-class StaysApart(Late):
+class StaysApart(Call):
     """It joins no neighbours."""
 
     def replaced(self, areas: list[Area], lo: int, hi: int, middle: list[Area]) -> list[Area]:
@@ -295,7 +287,7 @@ class StaysApart(Late):
         return super().replaced(areas, lo, hi, middle)
 
 
-class LeavesLastPage(Late):
+class LeavesLastPage(Call):
     """It leaves the last of several pages."""
 
     def replaced(self, areas: list[Area], lo: int, hi: int, middle: list[Area]) -> list[Area]:
@@ -305,33 +297,30 @@ class LeavesLastPage(Late):
         return super().replaced(areas, lo, hi - 1, inner)
 
 
-class TakesPageMore(Late):
+class TakesPageMore(Call):
     """It unmaps the page behind its range."""
 
     def replaced(self, areas: list[Area], lo: int, hi: int, middle: list[Area]) -> list[Area]:
         return super().replaced(areas, lo, hi + self.is_now, middle)
 
 
-class ForgetsOffset(Late):
+class ForgetsOffset(Call):
     """What it splits off above has the offset of the whole."""
 
     def replaced(self, areas: list[Area], lo: int, hi: int, middle: list[Area]) -> list[Area]:
-        split = next((area for area in areas if area.lo < hi < area.hi), None)
-        if self.is_now and split:
-            place = areas.index(split)
-            pieces = [model.piece(split, split.lo, hi), split._replace(lo=hi)]
-            areas = areas[:place] + pieces + areas[place + 1 :]
+        if self.is_now:
+            areas = split_at(areas, hi, 1, lambda piece, whole: piece._replace(offset=whole.offset))
         return super().replaced(areas, lo, hi, middle)
 
 
-class PassesSeals(Late):
+class PassesSeals(Call):
     """It changes what is sealed."""
 
     def has_sealed(self, lo: int, hi: int) -> bool:
         return not self.is_now and super().has_sealed(lo, hi)
 
 
-class PassesLimit(Late):
+class PassesLimit(Call):
     """It makes one area too many."""
 
     def keep(self, areas: list[Area], *rest: Any, **more: Any) -> model.Reply:
@@ -342,7 +331,7 @@ class PassesLimit(Late):
             self.most_areas -= self.is_now
 
 
-class DoesNothing(Late):
+class DoesNothing(Call):
     """It answers, and changes nothing."""
 
     def made(self, name: str, arguments: tuple[Any, ...]) -> Any:
@@ -358,7 +347,7 @@ class DoesNothing(Late):
         self.was_now = self.is_now
 
 
-FAULTS: list[type[Late]] = [StaysApart, LeavesLastPage, TakesPageMore, ForgetsOffset, PassesSeals, PassesLimit, DoesNothing]
+FAULTS: list[type[Call]] = [StaysApart, LeavesLastPage, TakesPageMore, ForgetsOffset, PassesSeals, PassesLimit, DoesNothing]
 
 
 def in_states() -> Iterator[Wrong]:

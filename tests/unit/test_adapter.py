@@ -1,18 +1,20 @@
 """Adapters: what `serve` makes of a class, what an adapter says that it has, and that traces are made of that alone."""
-from __future__ import annotations
 
 import contextlib
 import io
 import os
+import shlex
 import subprocess
 import sys
-import tempfile
 import unittest
-from pathlib import Path
 from typing import Any
+from unittest import mock
 
+from unit.common import InFolder, vma
 from vmatools import adapter, model
 from vmatools.adapter import Area, File, Settings
+from vmatools.commands import new_adapter
+from vmatools.running import program
 from vmatools.running.program import TOP
 from vmatools.systems.batch import Adapter, Adapters
 from vmatools.systems.capabilities import Capabilities, split
@@ -153,27 +155,39 @@ for line in sys.stdin:
 """
 
 
-class Example(unittest.TestCase):
+class Example(InFolder):
     def test_one_trace_without_batch(self) -> None:
         text = (TOP / "examples/readme.trace").read_text()
         done = subprocess.run(EXAMPLE, input=text, capture_output=True, text=True)
         self.assertEqual((done.returncode, done.stdout), (0, (TOP / "examples/readme.out").read_text()))
 
     def test_a_new_adapter_runs_where_it_is_written(self) -> None:
-        with tempfile.TemporaryDirectory() as folder:
-            words = [sys.executable, str(TOP / "tools/vma"), "new-adapter"]
-            for language, names in (("python", ["adapter.py"]), ("c", ["adapter.c", "vma_adapter.h"])):
-                done = subprocess.run([*words, language, f"{folder}/{language}"], capture_output=True, text=True)
-                self.assertEqual((done.returncode, sorted(os.listdir(f"{folder}/{language}"))), (0, names), done.stderr)
-            done = subprocess.run([*words, "c", f"{folder}/c"], capture_output=True, text=True)
-            self.assertEqual((done.returncode, done.stdout), (2, ""))
-            self.assertIn("adapter.c: it is there already", done.stderr)
-            self.assertNotIn("examples/", Path(folder, "python/adapter.py").read_text())
-            own = subprocess.run([f"{folder}/python/adapter.py"], input="vmatrace 1\n0 maps\n", capture_output=True, text=True)
-            self.assertEqual(own.stdout, "L2 t0 v0 = maps 0\nmaps 0\n")
+        for language, names in (("python", ["adapter.py"]), ("c", ["adapter.c", "vma_adapter.h"])):
+            done = vma("new-adapter", language, f"{self.top}/{language}")
+            self.assertEqual((done.returncode, sorted(os.listdir(self.top / language))), (0, names), done.stderr)
+        done = vma("new-adapter", "c", f"{self.top}/c")
+        self.assertEqual((done.returncode, done.stdout), (2, ""))
+        self.assertIn("adapter.c: it is there already", done.stderr)
+        self.assertNotIn("examples/", (self.top / "python/adapter.py").read_text())
+        own = subprocess.run([self.top / "python/adapter.py"], input="vmatrace 1\n0 maps\n", capture_output=True, text=True)
+        self.assertEqual(own.stdout, "L2 t0 v0 = maps 0\nmaps 0\n")
+
+    def test_its_next_commands_are_for_a_shell_wherever_the_tools_are(self) -> None:
+        tool = self.put("a ü/tools/vma", "")
+        with mock.patch.object(program, "TOP", self.top / "a ü"):
+            last = new_adapter.next_steps(self.top, new_adapter.LANGUAGES["c"], "./adapter")[-1]
+        self.assertEqual(shlex.split(last), [str(tool), "compare", "--batch", "--", "./adapter"])
+
+    def test_what_it_lacks_is_left_out_without_batch_too(self) -> None:
+        case = ["--only", "mprotect/limit-split-refused", "--only", "munmap/whole"]
+        runs = ["--no-suite", "--runs", "5", "--profile", "limits"]
+        for words in ("conform", *case), ("compare", *runs):
+            command = [sys.executable, str(TOP / "tools/vma"), *words, "--", *EXAMPLE]
+            done = subprocess.run(command, capture_output=True, text=True)
+            self.assertEqual(done.returncode, 0, done.stdout)
+            self.assertRegex(done.stdout + done.stderr, "left out: 1: the adapter has no limit|COMMAND has no .*limit.*: traces")
 
     def test_a_new_adapter_that_cannot_be_written_is_not_there(self) -> None:
-        with tempfile.TemporaryDirectory() as folder:
-            limited = ["sh", "-c", 'ulimit -f 16; exec "$@"', "sh", sys.executable, str(TOP / "tools/vma")]
-            done = subprocess.run([*limited, "new-adapter", "c", folder], capture_output=True, text=True)
-            self.assertEqual((done.returncode, os.listdir(folder)), (74, []), done.stderr)
+        limited = ["sh", "-c", 'ulimit -f 16; exec "$@"', "sh", sys.executable, str(TOP / "tools/vma")]
+        done = subprocess.run([*limited, "new-adapter", "c", self.top], capture_output=True, text=True)
+        self.assertEqual((done.returncode, os.listdir(self.top)), (74, []), done.stderr)

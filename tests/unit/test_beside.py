@@ -1,5 +1,4 @@
 """A known system in a comparison: its words, how traces are fitted, and what of it is compared."""
-from __future__ import annotations
 
 import argparse
 import time
@@ -34,9 +33,7 @@ def options_of(*words: str) -> argparse.Namespace:
 
 class Words(unittest.TestCase):
     def setUp(self) -> None:
-        patch = mock.patch.object(beside, "missing", return_value=None)
-        patch.start()
-        self.addCleanup(patch.stop)
+        self.enterContext(mock.patch.object(beside, "missing", return_value=None))
 
     def test_a_system_that_is_not_installed(self) -> None:
         with mock.patch.object(beside, "missing", return_value="runsc"):

@@ -1,11 +1,9 @@
 """What the checks of tests/checks let pass and what not."""
-from __future__ import annotations
 
 import os
 import signal
 import subprocess
 import sys
-import tempfile
 import unittest
 from pathlib import Path
 from unittest import mock
@@ -19,6 +17,7 @@ import lint
 import workflows
 
 from models.loading import module_of
+from unit.common import InFolder
 
 
 class Groups(unittest.TestCase):
@@ -99,16 +98,14 @@ class Kit(unittest.TestCase):
                     kit.check_logic("0123abcd", told)
 
 
-class Examples(unittest.TestCase):
+class Examples(InFolder):
     """A wrong output beside a trace, and one that is not legal, are found; no fork is judged."""
 
     def check(self, trace: str, output: str, judged: str) -> None:
-        with tempfile.TemporaryDirectory(dir=checking.TOP) as folder:
-            path, program = Path(folder, "a.trace"), Path(folder, "program")
-            path.write_text(trace)
-            path.with_suffix(".out").write_text("right\n")
-            program.write_text(f"#!/bin/sh\ncat > /dev/null\n[ $1 = check ] && echo {judged} || echo {output}\n")
-            program.chmod(0o755)
+        path = self.put("a.trace", trace)
+        self.put("a.out", "right\n")
+        program = self.put_program("program", f"cat > /dev/null\n[ $1 = check ] && echo {judged} || echo {output}\n")
+        with mock.patch.object(examples, "TOP", self.top):
             examples.check_output(str(program), "serial", path)
 
     def test_what_is_found(self) -> None:

@@ -1,16 +1,14 @@
 """What the tools start ends with them, whatever ends them, and so does what that has started."""
-from __future__ import annotations
 
 import os
 import signal
 import subprocess
 import sys
-import tempfile
 import time
-import unittest
 from collections.abc import Callable
-from pathlib import Path
+from typing import Any
 
+from unit.common import VMA, InFolder
 from vmatools.running import children, keeper
 from vmatools.running.program import TOP
 
@@ -39,6 +37,10 @@ children.start(["sh", "-c", "setsid sh -c 'echo $$ >> {pids}; sleep 1000' & read
 """
 
 
+# How an adapter answers when it is asked what it has, by itself and as one of many traces.
+ANSWERS = ("read a; case $a in trace*) exit;; esac", "read a; read b; read c; echo maps 0; echo end 1; read d")
+
+
 def waited(is_done: Callable[[], object]) -> bool:
     """Whether something comes true in time."""
     end = time.monotonic() + SECONDS
@@ -47,20 +49,14 @@ def waited(is_done: Callable[[], object]) -> bool:
     return bool(is_done())
 
 
-class Children(unittest.TestCase):
+class Children(InFolder):
     def setUp(self) -> None:
-        folder = tempfile.TemporaryDirectory()
-        self.addCleanup(folder.cleanup)
-        self.top = Path(folder.name)
-        self.pids = self.top / "pids"
-        self.pids.touch()
+        super().setUp()
+        self.pids = self.put("pids", "")
 
-    def adapter(self, is_batch: bool = False) -> list[str]:
-        """The command of an adapter that hangs; of many traces, it answers the first, which has no line."""
-        script = self.top / "adapter"
-        says = "read a; read b; read c; echo maps 0; echo end 1; read d" if is_batch else ""
-        script.write_text(HANGS.format(pids=self.pids, says=says), encoding="utf-8")
-        return ["sh", str(script)]
+    def adapter(self, says: str = "") -> list[str]:
+        """The command of an adapter that hangs when it has said this."""
+        return ["sh", str(self.put("adapter", HANGS.format(pids=self.pids, says=says)))]
 
     def started(self) -> list[int]:
         return [int(line) for line in self.pids.read_text(encoding="ascii").split()]
@@ -69,10 +65,9 @@ class Children(unittest.TestCase):
         """Which of them still run."""
         return sorted(set(self.started()) & set(keeper.families()))
 
-    def ended_by(self, number: int, *words: str) -> tuple[int, str, str]:
+    def ended_by(self, number: int, command: list[str], **more: Any) -> tuple[int, str, str]:
         """Ends a tool in the middle of a case that hangs; its status, and what it wrote, where all it started is gone."""
-        command = [sys.executable, str(TOP / "tools/vma"), *words]
-        with subprocess.Popen(command, stdout=subprocess.PIPE, stderr=subprocess.PIPE, text=True) as tool:
+        with subprocess.Popen(command, stdout=subprocess.PIPE, stderr=subprocess.PIPE, text=True, **more) as tool:
             self.assertTrue(waited(lambda: len(self.started()) >= 3), "the adapter doesn't begin")
             begin = time.monotonic()
             tool.send_signal(number)
@@ -87,25 +82,30 @@ class Children(unittest.TestCase):
                 with self.subTest(batch=batch, number=number):
                     self.pids.write_text("")
                     words = ["conform", "--jobs", "1", "--seconds", "600", "--only", "brk", *batch, "--"]
-                    status, output, message = self.ended_by(number, *words, *self.adapter(bool(batch)))
+                    status, output, message = self.ended_by(number, [*VMA, *words, *self.adapter(ANSWERS[bool(batch)])])
                     if number == signal.SIGINT:  # with a report of what there was
                         self.assertEqual(status, 130)
                         self.assertRegex(message, "interrupted: 0 of [0-9]+ cases")
                         self.assertIn("all ", output)
 
     def test_compare_that_is_ended(self) -> None:
-        program = self.top / "program"
-        program.write_text("#!/bin/sh\necho maps 0\n", encoding="utf-8")
-        program.chmod(0o755)
-        trace = self.top / "a.trace"
-        trace.write_text("vmatrace 1\n", encoding="utf-8")
+        program, trace = self.put_program("program", "echo maps 0\n"), self.put("a.trace", "vmatrace 1\n")
         for batch in list[str](), ["--batch"]:
             for number, wanted in ((signal.SIGTERM, 143), (signal.SIGKILL, -9), (signal.SIGINT, 130)):
                 with self.subTest(batch=batch, number=number):
                     self.pids.write_text("")
                     words = ["--jobs", "1", "--seconds", "600", "--program", str(program), "--traces", str(trace), *batch]
-                    status, _, _ = self.ended_by(number, "compare", *words, "--", *self.adapter(bool(batch)))
+                    status, _, _ = self.ended_by(number, [*VMA, "compare", *words, "--", *self.adapter(ANSWERS[bool(batch)])])
                     self.assertEqual(status, wanted)
+
+    def test_a_check_that_is_ended(self) -> None:
+        self.put_program("rt", HANGS.format(pids=self.pids, says=""))
+        environment = {**os.environ, "PATH": f"{self.top}:{os.environ['PATH']}", "TMPDIR": str(self.top)}
+        check = [sys.executable, "-B", str(TOP / "tests/checks"), "refused_programs"]
+        for number, wanted in ((signal.SIGTERM, -15), (signal.SIGKILL, -9), (signal.SIGINT, 130)):
+            with self.subTest(number=number):
+                self.pids.write_text("")
+                self.assertEqual(self.ended_by(number, check, env=environment)[0], wanted)
 
     def test_a_tool_that_is_killed_before_the_keeper_knows(self) -> None:
         fifo = self.top / "fifo"

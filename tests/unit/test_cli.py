@@ -1,5 +1,4 @@
 """The command `vma`: its subcommands, how it finds the program, and how it ends."""
-from __future__ import annotations
 
 import contextlib
 import io
@@ -9,7 +8,6 @@ import shutil
 import signal
 import subprocess
 import sys
-import tempfile
 import time
 import unittest
 from dataclasses import replace
@@ -19,22 +17,18 @@ from typing import Any
 from unittest import mock
 
 from models.loading import needs
+from unit.common import VMA, InFolder, vma as run
 from vmatools import VERSION, cli, console, versions
+from vmatools.comparing.campaign import Campaign
 from vmatools.running import program
 from vmatools.running.program import TOP
 from vmatools.systems import adapter, batch
 
-VMA = str(TOP / "tools/vma")
 TRACE = str(TOP / "examples/readme.trace")
 NEEDS_CC = needs("cc")
 
 
-def run(*words: str, **more: Any) -> subprocess.CompletedProcess[str]:
-    ends: dict[str, Any] = {"capture_output": True, "timeout": 300, **more}
-    return subprocess.run([sys.executable, VMA, *words], text=True, **ends)
-
-
-class Commands(unittest.TestCase):
+class Commands(InFolder):
     def test_each_command_has_its_words_and_an_example(self) -> None:
         for command in cli.COMMANDS.values():
             with self.subTest(command.name):
@@ -42,6 +36,12 @@ class Commands(unittest.TestCase):
                 self.assertTrue(module.SUMMARY)
                 self.assertIn(f"vma {command.name}", parser.format_usage())
                 self.assertRegex(parser.format_help(), rf"\nexample:\n +tools/vma {command.name} ")
+
+    def test_help_speaks_of_a_file_where_there_is_one(self) -> None:
+        for command in cli.COMMANDS.values():
+            parser, _ = cli.parser_of(command)
+            if re.search("FILE is a", parser.format_help()):
+                self.assertRegex(parser.format_usage(), "FILE|TRACE", command.name)
 
     def test_help_has_each_command_once(self) -> None:
         text = cli.whole_help()
@@ -70,10 +70,9 @@ class Commands(unittest.TestCase):
         self.assertEqual(run("expalin").returncode, console.WRONG_USE)
 
     def test_what_is_compiled_is_not_beside_the_sources(self) -> None:
-        with tempfile.TemporaryDirectory() as folder:
-            environment = {name: value for name, value in os.environ.items() if name != "PYTHONDONTWRITEBYTECODE"}
-            run("emit", "--help", env={**environment, "XDG_CACHE_HOME": folder})
-            self.assertTrue(list(Path(folder, "diltzekun/python").rglob("vmatools/*.pyc")))
+        environment = {name: value for name, value in os.environ.items() if name != "PYTHONDONTWRITEBYTECODE"}
+        run("emit", "--help", env={**environment, "XDG_CACHE_HOME": str(self.top)})
+        self.assertTrue(list((self.top / "diltzekun/python").rglob("vmatools/*.pyc")))
 
     def test_help_of_a_command(self) -> None:
         self.assertEqual(run("help", "judge").stdout, run("judge", "--help").stdout)
@@ -86,10 +85,11 @@ class Commands(unittest.TestCase):
             self.assertRegex(done.stderr, rf"^vma {words[0]}: [^\n]*; `vma {words[0]} --help` lists the words\n$")
 
 
-class Modes(unittest.TestCase):
+class Modes(InFolder):
     """The modes of the program, by the model, which answers where no program is found."""
 
     def setUp(self) -> None:
+        super().setUp()
         self.bare = {**os.environ, "PATH": "/usr/bin:/bin", program.VARIABLE: str(program.PROGRAM.model)}
         self.bare[program.LIVE.variable] = str(program.LIVE.model)
 
@@ -108,6 +108,9 @@ class Modes(unittest.TestCase):
     def test_a_model_says_once_that_it_is_one(self) -> None:
         done = run("serial", TRACE, TRACE, env=self.bare)
         self.assertEqual(done.stderr, f"vma serial: {program.NOT_BUILT}\n")
+        for words in ("draw", TRACE), ("judge", TRACE, TRACE.replace("trace", "out")):
+            self.assertEqual(run(*words, env=self.bare).stderr, f"vma {words[0]}: {program.NOT_BUILT}\n")
+            self.assertEqual(run(*words, "--as", "linux-6.18", env=self.bare).stderr, "")
 
     def test_a_bad_line_is_told_in_words(self) -> None:
         text = "vmatrace 1\n0 mmap 0 4096 PROT_RW MAP_PRIVATE|MAP_ANONYMOUS -1 0\n"
@@ -152,49 +155,35 @@ class Modes(unittest.TestCase):
         self.assertEqual(first, f"diltzekun {VERSION}")
         for line, named in ((main, program.PROGRAM), (live, program.LIVE)):
             self.assertIn(f"{named.on_path}: {named.model} (${named.variable}): not proved", line)
-        with tempfile.TemporaryDirectory() as folder:
-            sums = Path(folder, "sums")
-            with mock.patch.object(versions, "SUMS", sums):
-                self.assertEqual(versions.standing(Path("/bin/true"), program.PROGRAM), "not known to be proved")
-                sums.write_text(f"{versions.sum_of(Path('/bin/true'))}  usr/bin/diltzekun\n")
-                self.assertEqual(versions.standing(Path("/bin/true"), program.PROGRAM), f"proved: {sums} has its sum")
+        with mock.patch.object(versions, "SUMS", self.top / "sums"):
+            self.assertEqual(versions.standing(Path("/bin/true"), program.PROGRAM), "not known to be proved")
+            sums = self.put("sums", f"{versions.sum_of(Path('/bin/true'))}  usr/bin/diltzekun\n")
+            self.assertEqual(versions.standing(Path("/bin/true"), program.PROGRAM), f"proved: {sums} has its sum")
 
     def test_what_merely_lies_where_the_kit_builds_is_not_called_proved(self) -> None:
-        with tempfile.TemporaryDirectory() as folder:
-            built, sums = Path(folder, "built"), Path(folder, "sums")
-            built.write_text("proved")
-            sums.write_text(f"{versions.sum_of(built)}  built\n")
-            named = replace(program.PROGRAM, default=built)
-            with mock.patch.object(versions, "SUMS", sums):
-                self.assertRegex(versions.standing(built, named), "^proved: ")
-                built.write_text("copied over")
-                self.assertRegex(versions.standing(built, named), "^built, but not known to be proved: ")
+        built = self.put("built", "proved")
+        named = replace(program.PROGRAM, default=built)
+        with mock.patch.object(versions, "SUMS", self.put("sums", f"{versions.sum_of(built)}  built\n")):
+            self.assertRegex(versions.standing(built, named), "^proved: ")
+            self.put("built", "copied over")
+            self.assertRegex(versions.standing(built, named), "^built, but not known to be proved: ")
 
 
-class Program(unittest.TestCase):
+class Program(InFolder):
     def test_the_first_place_that_names_one(self) -> None:
-        with tempfile.TemporaryDirectory() as folder:
-            made = {name: os.path.join(folder, name) for name in ("given", "variable", program.ON_PATH)}
-            for path in made.values():
-                Path(path).write_text("#!/bin/sh\n")
-                os.chmod(path, 0o755)
-            environment = {"PATH": folder, program.VARIABLE: made["variable"]}
-            with mock.patch.dict(os.environ, environment):
-                self.assertEqual(program.find(made["given"]), made["given"])
-                self.assertEqual(program.find(), made["variable"])
-                del os.environ[program.VARIABLE]
-                self.assertEqual(program.find(), made[program.ON_PATH])
+        given, named, on_path = (str(self.put_program(name, "")) for name in ("given", "variable", program.ON_PATH))
+        with mock.patch.dict(os.environ, {"PATH": str(self.top), program.VARIABLE: named}):
+            self.assertEqual(program.find(given), given)
+            self.assertEqual(program.find(), named)
+            del os.environ[program.VARIABLE]
+            self.assertEqual(program.find(), on_path)
 
     def test_the_one_of_a_package_that_is_not_on_the_path(self) -> None:
-        with tempfile.TemporaryDirectory() as folder:
-            made = Path(folder, "bin/diltzekun")
-            made.parent.mkdir()
-            made.write_text("#!/bin/sh\n")
-            made.chmod(0o755)
-            with mock.patch.dict(os.environ, {"PATH": "/no/such/folder"}, clear=True):
-                with mock.patch.object(program, "TOP", Path(folder, "share/diltzekun")):
-                    self.assertEqual(program.PROGRAM.place(), (made, "the package"))
-                    self.assertIsNone(program.LIVE.packaged)
+        made = self.put_program("bin/diltzekun", "")
+        with mock.patch.dict(os.environ, {"PATH": "/no/such/folder"}, clear=True):
+            with mock.patch.object(program, "TOP", self.top / "share/diltzekun"):
+                self.assertEqual(program.PROGRAM.place(), (made, "the package"))
+                self.assertIsNone(program.LIVE.packaged)
 
     def test_the_model_stands_in_where_none_is_built(self) -> None:
         named = replace(program.PROGRAM, default=Path("/no/program"))
@@ -211,48 +200,41 @@ class Program(unittest.TestCase):
         self.assertIn("rt run", str(caught.exception))
 
     def test_one_that_is_missing_away_from_a_checkout(self) -> None:
-        with tempfile.TemporaryDirectory() as folder:
-            shutil.copytree(TOP / "tools", Path(folder, "tools"), ignore=shutil.ignore_patterns("__pycache__"))
-            words = [sys.executable, str(Path(folder, "tools/vma")), "compare"]
-            no_other = {"PATH": "/usr/bin:/bin"}
-            ways = "; name one by --program PATH or $DILTZEKUN, or put `diltzekun` on the PATH\n"
-            words += ["--program", "/nowhere", "--", "true"]
-            done = subprocess.run(words, capture_output=True, text=True, env=no_other)
-            self.assertEqual(done.stderr, f"vma compare: the program /nowhere is not there{ways}")
-            self.assertEqual(done.returncode, console.WRONG_USE)
+        shutil.copytree(TOP / "tools", self.top / "tools", ignore=shutil.ignore_patterns("__pycache__"))
+        words = [sys.executable, str(self.top / "tools/vma"), "compare", "--program", "/nowhere", "--", "true"]
+        done = subprocess.run(words, capture_output=True, text=True, env={"PATH": "/usr/bin:/bin"})
+        ways = "; name one by --program PATH or $DILTZEKUN, or put `diltzekun` on the PATH\n"
+        self.assertEqual(done.stderr, f"vma compare: the program /nowhere is not there{ways}")
+        self.assertEqual(done.returncode, console.WRONG_USE)
 
     def test_a_command_that_is_not_there(self) -> None:
-        with tempfile.TemporaryDirectory() as folder:
-            plain = os.path.join(folder, "plain")
-            Path(plain).write_text("maps 0\n")
-            for word, why in (
-                (f"{folder}/none", "is not there"),
-                ("no-such-program", "is not on the PATH"),
-                (folder, "is a directory"),
-                (plain, f"is not executable; `chmod \\+x {plain}` makes it so"),
-            ):
-                with self.assertRaisesRegex(console.Failure, f"^COMMAND {word} {why}$"):
-                    program.check_command([word])
-            with contextlib.chdir(folder), self.assertRaisesRegex(console.Failure, r"on the PATH; did you mean \./plain\?"):
-                program.check_command(["plain"])
+        plain = self.put("plain", "maps 0\n")
+        for word, why in (
+            (f"{self.top}/none", "is not there"),
+            ("no-such-program", "is not on the PATH"),
+            (str(self.top), "is a directory"),
+            (str(plain), f"is not executable; `chmod \\+x {plain}` makes it so"),
+        ):
+            with self.assertRaisesRegex(console.Failure, f"^COMMAND {word} {why}$"):
+                program.check_command([word])
+        with contextlib.chdir(self.top), self.assertRaisesRegex(console.Failure, r"on the PATH; did you mean \./plain\?"):
+            program.check_command(["plain"])
 
     def test_a_command_that_is_no_program(self) -> None:
-        with tempfile.TemporaryDirectory() as folder:
-            for text, why in (
-                ("print('maps 0')\n", "Exec format error; a script begins with `#!` and the path of its interpreter"),
-                ("#!/no/such/python\n", "the interpreter that it names is not there"),
-            ):
-                script = Path(folder, "adapter")
-                script.write_text(text)
-                script.chmod(0o755)
-                told = f"^{script} cannot be run: {why}$"
-                with self.assertRaisesRegex(console.Failure, told):
-                    program.run([script], b"", 5)
-                with self.assertRaisesRegex(console.Failure, told):
-                    batch.Adapter([str(script)]).begin()
+        for text, why in (
+            ("print('maps 0')\n", "Exec format error; a script begins with `#!` and the path of its interpreter"),
+            ("#!/no/such/python\n", "the interpreter that it names is not there"),
+        ):
+            script = self.put_program("adapter", "#!")
+            script.write_text(text)
+            told = f"^{script} cannot be run: {why}$"
+            with self.assertRaisesRegex(console.Failure, told):
+                program.run([script], b"", 5)
+            with self.assertRaisesRegex(console.Failure, told):
+                batch.Adapter([str(script)]).begin()
 
 
-class Ends(unittest.TestCase):
+class Ends(InFolder):
     def test_a_full_device(self) -> None:
         with open("/dev/full", "w") as full:
             done = run("draw", TRACE, capture_output=False, stdout=full, stderr=subprocess.PIPE)
@@ -268,14 +250,13 @@ class Ends(unittest.TestCase):
             self.assertEqual(done.stderr, f"vma {words[0]}: /dev/full: No space left on device\n")
 
     def test_files_are_opened_before_the_work(self) -> None:
-        with tempfile.TemporaryDirectory() as folder:
-            path, mark = os.path.join(folder, "none", "x"), os.path.join(folder, "mark")
-            compare = ("compare", "--program", "/bin/true", "--json", path, "--", "touch", mark)
-            for words in (("conform", "--junit", path, "--", "touch", mark), compare):
-                done = run(*words)
-                self.assertEqual(done.returncode, console.WRONG_USE)
-                self.assertEqual(done.stderr, f"vma {words[0]}: {path}: No such file or directory\n")
-            self.assertFalse(os.path.exists(mark))
+        path, mark = f"{self.top}/none/x", f"{self.top}/mark"
+        compare = ("compare", "--program", "/bin/true", "--json", path, "--", "touch", mark)
+        for words in (("conform", "--junit", path, "--", "touch", mark), compare):
+            done = run(*words)
+            self.assertEqual(done.returncode, console.WRONG_USE)
+            self.assertEqual(done.stderr, f"vma {words[0]}: {path}: No such file or directory\n")
+        self.assertFalse(os.path.exists(mark))
 
     def test_a_file_that_has_no_end(self) -> None:
         with self.assertRaises(console.Failure) as caught:
@@ -315,18 +296,17 @@ class Ends(unittest.TestCase):
         )
 
     def test_an_output_that_is_not_there(self) -> None:
-        done = subprocess.run(["sh", "-c", f"{VMA} explain {TRACE} >&-"], stderr=subprocess.PIPE, text=True)
+        done = subprocess.run(["sh", "-c", f"{VMA[1]} explain {TRACE} >&-"], stderr=subprocess.PIPE, text=True)
         self.assertEqual((done.returncode, "Traceback" in done.stderr), (console.NOT_WRITTEN, False))
 
     def test_an_interruption(self) -> None:
-        with tempfile.TemporaryDirectory() as folder:
-            path = os.path.join(folder, "trace")
-            os.mkfifo(path)
-            with subprocess.Popen([sys.executable, VMA, "explain", path], stderr=subprocess.PIPE) as process:
-                with open(path, "wb"):  # it is open once the command reads it
-                    time.sleep(0.5)
-                    process.send_signal(signal.SIGINT)
-                    _, message = process.communicate(timeout=300)
+        path = str(self.top / "trace")
+        os.mkfifo(path)
+        with subprocess.Popen([*VMA, "explain", path], stderr=subprocess.PIPE) as process:
+            with open(path, "wb"):  # it is open once the command reads it
+                time.sleep(0.5)
+                process.send_signal(signal.SIGINT)
+                _, message = process.communicate(timeout=300)
         self.assertEqual((process.returncode, message), (console.INTERRUPTED, b"vma explain: interrupted\n"))
 
     @NEEDS_CC
@@ -354,20 +334,25 @@ class Ends(unittest.TestCase):
         self.assertEqual(done.stderr, "vma kernel: gvisor is not installed (Debian: apt-get install runsc)\n")
 
     def test_a_folder_that_is_a_file(self) -> None:
-        with tempfile.NamedTemporaryFile() as file:
-            done = run("emit", "--runs", "1", file.name)
-        self.assertEqual(done.stderr, f"vma emit: {file.name}: it is a file, and has to be a folder\n")
+        file = self.put("file", "")
+        done = run("emit", "--runs", "1", str(file))
+        self.assertEqual(done.stderr, f"vma emit: {file}: it is a file, and has to be a folder\n")
         self.assertEqual(done.returncode, console.WRONG_USE)
 
     def test_a_time_in_which_no_trace_ends(self) -> None:
-        with tempfile.TemporaryDirectory() as folder:
-            slow = Path(folder, "slow")
-            slow.write_text("#!/bin/sh\nexec sleep 1\n")
-            slow.chmod(0o755)
-            done = run("compare", "--for", "0.1", "--jobs", "1", "--program", str(slow), "--", str(slow))
+        slow = str(self.put_program("slow", "exec sleep 1\n"))
+        done = run("compare", "--for", "0.1", "--jobs", "1", "--program", slow, "--", slow)
         self.assertEqual(done.returncode, console.WRONG_USE)
         self.assertRegex(done.stdout, r"\A[0-9]+ cases of the suite not run: the run ended before\n0 traces, 0 differ\n\Z")
         self.assertEqual(done.stderr, "vma compare: no trace came to its end in 0.1 seconds: give it more by --for\n")
+
+    def test_a_time_in_which_all_traces_are_left_out(self) -> None:
+        words = ["compare", "--no-suite", "--runs", "2", "--for", "600", "--jobs", "1", "--", "sh", "-c", "exit 4"]
+        said = io.StringIO()
+        with mock.patch.object(Campaign, "is_too_short", True), contextlib.redirect_stderr(said):
+            with self.put("output", "").open("w") as output, contextlib.redirect_stdout(output):
+                self.assertEqual(cli.main(words), console.WRONG_USE)
+        self.assertEqual(said.getvalue().splitlines()[-1], "vma compare: the system ran none of the traces")
 
     def test_a_row_of_nearly_this_name(self) -> None:
         done = run("rows", "--as", "profile", "--program", sys.executable, "limit-jion")
@@ -375,23 +360,21 @@ class Ends(unittest.TestCase):
 
     @NEEDS_CC
     def test_a_row_of_a_trace_of_ones_own(self) -> None:
-        with tempfile.TemporaryDirectory() as folder:
-            program = Path(folder, "program")
-            program.write_text("#!/bin/sh\ncat > /dev/null\necho maps 0\n", encoding="utf-8")
-            program.chmod(0o755)
-            trace = Path(folder, "my.trace")
-            trace.write_text("vmatrace 1\n0 brk 0\n", encoding="utf-8")
-            answer = "L2 t0 v1 = 0x7fffff17d000\nmaps 0\n"  # the break of the process that makes the calls
-            with mock.patch.object(adapter.Adapter, "answer", lambda _, __: answer):
-                for name in (str(trace), "-"):
-                    with self.subTest(name=name), contextlib.redirect_stdout(io.StringIO()) as text:
-                        with mock.patch.object(console, "whole_text", lambda path: trace.read_text(encoding="utf-8")):
-                            options = cli.parser_of(cli.COMMANDS["rows"])[0].parse_args(["--program", str(program), name])
-                            self.assertEqual(cli.COMMANDS["rows"].load().run(options), 1)
-                    shown = f"== {name}\nvmatrace 1\n0 brk 0\n+L2 t0 v1 = BREAK\n\n1 row, 1 otherwise\n"
-                    self.assertEqual(text.getvalue(), shown)
-            done = run("rows", "--as", "profile", "--program", str(program), str(trace))
-            self.assertIn("`--as profile` leaves Linux out", done.stderr)
+        program = str(self.put_program("program", "cat > /dev/null\necho maps 0\n"))
+        text = "vmatrace 1\n0 brk 0\n"
+        trace = str(self.put("my.trace", text))
+        answer = "L2 t0 v1 = 0x7fffff17d000\nmaps 0\n"  # the break of the process that makes the calls
+        with (
+            mock.patch.object(adapter.Adapter, "answer", lambda _, __: answer),
+            mock.patch.object(console, "whole_text", lambda path: text),
+        ):
+            for name in (trace, "-"):
+                with self.subTest(name=name), contextlib.redirect_stdout(io.StringIO()) as said:
+                    options = cli.parser_of(cli.COMMANDS["rows"])[0].parse_args(["--program", program, name])
+                    self.assertEqual(cli.COMMANDS["rows"].load().run(options), 1)
+                self.assertEqual(said.getvalue(), f"== {name}\n{text}+L2 t0 v1 = BREAK\n\n1 row, 1 otherwise\n")
+        done = run("rows", "--as", "profile", "--program", program, trace)
+        self.assertIn("`--as profile` leaves Linux out", done.stderr)
 
     def test_a_file_that_cannot_be_read(self) -> None:
         for path, why in (("/no/trace", "No such file or directory"), ("/", "Is a directory")):

@@ -1,8 +1,8 @@
 """What `vma compare` finds, what it sets aside, and what it writes."""
-from __future__ import annotations
 
 import io
 import json
+import random
 import re
 import sys
 import tempfile
@@ -22,6 +22,7 @@ from vmatools.comparing import (
     answers,
     campaign,
     comparison,
+    conformance,
     findings,
     generator,
     junit,
@@ -52,6 +53,13 @@ def examined(model: type[Space], text: bytes) -> comparison.Examined:
 
 def kinds(told: comparison.Examined) -> list[tuple[str, str, str]]:
     return [kind_of(one.difference) for one in told.findings]
+
+
+class Refuses(comparison.InProcess):
+    """A system that can run no trace."""
+
+    def there(self, trace: Trace, seconds: float | None = None) -> Ran:
+        return Ran("", conformance.CANNOT_RUN, "no room")
 
 
 class AllDifferences(unittest.TestCase):
@@ -190,6 +198,11 @@ class Generated(unittest.TestCase):
             first, second = (generator.Generator(name, "7 3", 12).draw().text() for _ in range(2))
             self.assertEqual(first, second)
             self.assertEqual(read_trace(first.encode()).text(), first)
+
+    def test_a_draw_below_an_end_is_that_of_randrange(self) -> None:
+        recipes, source = generator.Recipes(random.Random(1), generator.PROFILES["few"]), random.Random(1)
+        ends = [1, 2, 3, 7, 8, 100, 2**40] * 30
+        self.assertEqual([recipes.below(end) for end in ends], [source.randrange(end) for end in ends])
 
     def test_threads_name_calls_of_others(self) -> None:
         trace = generator.Generator("few", "1 1", 60, threads=4).draw()
@@ -545,6 +558,10 @@ class Runs(unittest.TestCase):
             self.assertTrue(told.has_new)
             self.assertEqual(told.not_run, {str(trace): "munmap/-1 EINVAL/-1 ENOMEM"})
             self.assertIn("not run again", findings.junit_of(told, False, None))
+            told = findings.Findings()
+            refused = Refuses(Space, comparison.Rules())
+            self.campaign(told, 1, sides=refused, kept=keeping.Kept.opened(folder)).run()
+            self.assertEqual((told.not_run, told.has_new), ({str(trace): "munmap/-1 EINVAL/-1 ENOMEM"}, True))
 
     def test_an_output_of_threads_is_blamed_on_its_line(self) -> None:
         trace = read_trace(TWO)

@@ -1,5 +1,4 @@
 """The conformance suite: its cases are read, a run over one is judged, and what came of all is told in each form."""
-from __future__ import annotations
 
 import argparse
 import contextlib
@@ -8,13 +7,12 @@ import json
 import os
 import subprocess
 import sys
-import tempfile
 import unittest
 import xml.etree.ElementTree as ElementTree
 from dataclasses import replace
-from pathlib import Path
 from unittest import mock
 
+from unit.common import InFolder, vma
 from vmatools.commands import conform
 from vmatools.comparing import conformance
 from vmatools.comparing.conformance import Case, Verdict
@@ -28,14 +26,11 @@ TRACE = "vmatrace 1\n# It maps a page: mmap(2).\n0 mmap 0 4096 PROT_READ MAP_PRI
 CASE = Case("mmap", "page", "It maps a page: mmap(2).", TRACE, ("a\nb\n",))
 
 
-class Cases(unittest.TestCase):
+class Cases(InFolder):
     def setUp(self) -> None:
-        folder = tempfile.TemporaryDirectory()
-        self.addCleanup(folder.cleanup)
-        self.top = Path(folder.name)
-        (self.top / "mmap").mkdir()
-        (self.top / "mmap/page.trace").write_text(TRACE)
-        (self.top / "mmap/page.out").write_text("a\nb\n")
+        super().setUp()
+        self.put("mmap/page.trace", TRACE)
+        self.put("mmap/page.out", "a\nb\n")
 
     def test_a_case_has_its_sentence_and_its_output(self) -> None:
         self.assertEqual(conformance.read_suite(self.top), [CASE])
@@ -55,27 +50,27 @@ class Cases(unittest.TestCase):
         self.assertEqual(conformance.read_suite(self.top)[0].right, ("a\nb\n",))
 
     def test_what_is_not_modelled_is_left_out(self) -> None:
-        (self.top / "mmap/page.trace").write_text("vmatrace 1\n0 brk 0x100000\n")
+        self.put("mmap/page.trace", "vmatrace 1\n0 brk 0x100000\n")
         case = conformance.read_suite(self.top, oracle=oracle_of("linux-6.18"))[0]
         result = conformance.judged(case, Ran("x\n", None, ""))
         self.assertIs(result.verdict, Verdict.LEFT_OUT)
         self.assertIn("line 2: every process has a break", result.why)
 
     def test_with_threads_each_legal_output_is_right(self) -> None:
-        (self.top / "mmap/page.legal").write_text("a\nb\n==\nb\na\n")
+        self.put("mmap/page.legal", "a\nb\n==\nb\na\n")
         self.assertEqual(conformance.read_suite(self.top)[0].right, ("a\nb\n", "b\na\n"))
 
     def test_what_a_kernel_was_recorded_to_answer_is_right_for_it(self) -> None:
         """And for no other version, and for no other settings."""
-        (self.top / "mmap/page.legal").write_text("a\nb\n==\nb\na\n")
-        (self.top / "mmap/page.linux").write_text(f"# a-row of docs/KERNEL.md\n# {kernel_of('6.18').words()}\nc\n")
+        self.put("mmap/page.legal", "a\nb\n==\nb\na\n")
+        self.put("mmap/page.linux", f"# a-row of docs/KERNEL.md\n# {kernel_of('6.18').words()}\nc\n")
         self.assertEqual(conformance.read_suite(self.top)[0].right, ("a\nb\n", "b\na\n"))
         for name, is_recorded in (("linux-6.18", True), ("linux-6.12", False), ("linux-6.18,keys=0", False)):
             right = "c\n" if is_recorded else oracle_of(name).output(read_trace(TRACE.encode()))
             self.assertEqual(conformance.read_suite(self.top, oracle=oracle_of(name))[0].right, (right,))
 
     def test_a_record_that_is_none_is_named(self) -> None:
-        (self.top / "mmap/page.linux").write_text("c\n")
+        self.put("mmap/page.linux", "c\n")
         with self.assertRaisesRegex(Failure, "page.linux: part 1 begins with no `# ROW of docs/KERNEL.md`"):
             conformance.read_suite(self.top, oracle=oracle_of("linux-6.18"))
 
@@ -148,32 +143,29 @@ class Forms(unittest.TestCase):
 class Systems(unittest.TestCase):
     """A system that doesn't run at all, and the tools' own adapter."""
 
-    def conform(self, *words: str) -> subprocess.CompletedProcess[str]:
-        command = [sys.executable, str(TOP / "tools/vma"), "conform", "--only", "munmap/whole", "--only", "munmap/again"]
-        return subprocess.run([*command, *words], capture_output=True, text=True)
-
     def test_where_it_does_not_begin_no_case_is_judged(self) -> None:
         adapter = "while read w n s; do [ $w = end ] && echo end $n 5 no such system; done"
-        done = self.conform("--batch", "--", "sh", "-c", adapter)
+        done = vma("conform", "--only", "munmap/whole", "--only", "munmap/again", "--batch", "--", "sh", "-c", adapter)
         self.assertEqual((done.returncode, done.stdout, done.stderr), (2, "", "vma conform: no such system\n"))
+
+    def test_where_it_runs_no_case_nothing_has_passed(self) -> None:
+        adapter = "while read w n s; do [ $w = end ] && echo end $n 4 not here; done"
+        done = vma("conform", "--only", "munmap/whole", "--only", "munmap/again", "--batch", "--", "sh", "-c", adapter)
+        self.assertEqual((done.returncode, done.stderr), (2, "vma conform: the system ran none of the cases\n"))
+        self.assertIn("left out: 2: not here\n", done.stdout)
 
     def test_a_place_that_is_searched_is_no_case_for_a_window(self) -> None:
         for right, line in (("L3 t0 v1 = 0x7ffff7ffe000\nmaps 0\n", 3), ("L3 t0 v1 = -1 ENOMEM\nmaps 0\n", None)):
             self.assertEqual(conform.searched_place(replace(CASE, right=(right,))), line)
 
 
-class Reports(unittest.TestCase):
+class Reports(InFolder):
     """What a user reads of the cases that aren't as they should be."""
 
     def conform(self, answers: str, *only: str) -> subprocess.CompletedProcess[str]:
         """Cases on an adapter that writes these answers, whatever it is asked."""
-        with tempfile.TemporaryDirectory() as folder:
-            adapter = Path(folder, "adapter")
-            adapter.write_text(f"#!/bin/sh\n{answers}\n", encoding="utf-8")
-            adapter.chmod(0o755)
-            words = [word for name in only for word in ("--only", name)]
-            command = [sys.executable, str(TOP / "tools/vma"), "conform", *words, "--", str(adapter)]
-            return subprocess.run(command, capture_output=True, text=True, timeout=300)
+        words = [word for name in only for word in ("--only", name)]
+        return vma("conform", *words, "--", str(self.put_program("adapter", f"{answers}\n")))
 
     def test_a_failed_case_has_its_trace_both_answers_and_its_command(self) -> None:
         done = self.conform("echo 'L3 t0 v1 = -1 EINVAL'", "munmap/again")

@@ -1,15 +1,11 @@
 """The corpus: what traces reach, which are kept, and how they are changed."""
-from __future__ import annotations
 
 import random
 import shutil
-import sys
 import tempfile
 import unittest
 from pathlib import Path
 
-TOP = Path(__file__).resolve().parents[2]
-sys.path[:0] = [str(TOP / "tools"), str(TOP / "tests")]
 from models import mutants
 from vmatools.comparing import campaign, changes, comparison, conformance, corpus, findings, generator, keeping, pairs
 from vmatools.model import Space
@@ -71,7 +67,7 @@ class Kept(unittest.TestCase):
         self.assertEqual([entry.trace.text() for entry in made.entries], [trace.text() for trace in told])
 
     def test_a_state_is_what_a_line_finds(self) -> None:
-        entry = changes.entry_of(read_trace(MAPPED))
+        entry = corpus.entry_of(read_trace(MAPPED), set())
         self.assertEqual([len(entry.space(place).areas) for place in range(3)], [0, 1, 1])
         self.assertEqual(entry.space(9).areas[0].hi, 0x13)
 
@@ -92,7 +88,7 @@ class Kept(unittest.TestCase):
         new = len(made.known) - made.before
         ran: set[pairs.Pair] = set()
         for trace in seeds(7):
-            corpus.last_fresh(trace, ran)
+            corpus.entry_of(trace, ran)
         self.assertEqual(made.reached_of([]), (new, 0, made.late))
         self.assertEqual(made.reached_of([str(place) for place in range(7)]), (new + len(ran), len(ran), made.late))
         self.assertEqual(made.reached_of([str(place) for place in range(30)]), (len(made.known), made.before, made.late))
@@ -122,17 +118,17 @@ class Grown(unittest.TestCase):
         self.assertEqual(changes.legal([fork, child, fork._replace(thread=2)]), [fork, child])
 
     def test_a_short_trace_gets_lines_of_files_too(self) -> None:
-        changer = changes.Changer(random.Random(1), 60)
-        entry = changes.entry_of(read_trace(b"vmatrace 1\nheap 0x10000\n0 brk 0x12000\n"))
+        changer = changes.Changer(random.Random(1), 30, 60)
+        entry = corpus.entry_of(read_trace(b"vmatrace 1\nheap 0x10000\n0 brk 0x12000\n"), set())
         for _ in range(20):
-            lines = changer.changed(entry, entry).lines
-            self.assertGreaterEqual(len(lines), changes.FEW_LINES - changes.MOST_CHANGES)
+            lines = changer.changed(entry, lambda: entry).lines
+            self.assertIn(len(lines), range(changer.lines - changes.MOST_CHANGES, changer.lines + 1))
         drawn = [changer.drawn_line(entry, 1, 0) for _ in range(200)]
         self.assertIn(3, [line.arguments[4] for line in drawn if line.word == "mmap"])
 
     def test_each_way_changes_something(self) -> None:
-        changer = changes.Changer(random.Random(1), 60)
-        entries = [changes.entry_of(trace) for trace in seeds(60)]
+        changer = changes.Changer(random.Random(1), 30, 60)
+        entries = [corpus.entry_of(trace, set()) for trace in seeds(60)]
         for way in changer.ways:
             was_changed = False
             for entry in entries:
@@ -168,7 +164,3 @@ class Folder(unittest.TestCase):
             self.assertEqual(again.agree, [str(kind)])
             self.assertGreater(again.traces, len(seeds))
             self.assertGreater(again.pairs.all, first.pairs.all)
-
-
-if __name__ == "__main__":
-    unittest.main()

@@ -1,14 +1,12 @@
 """The picture of a run: as wide as the column of a page that shows it, where its VMAs can be read so."""
-from __future__ import annotations
 
 import re
 import subprocess
-import sys
-import tempfile
 import unittest
 from pathlib import Path
 from xml.etree import ElementTree
 
+from unit.common import InFolder, vma
 from vmatools.drawing.axis import READABLE, Axis
 from vmatools.model import Area
 from vmatools.running.program import TOP
@@ -18,7 +16,7 @@ OUTPUT = Path(TOUR[1]).read_text()
 
 
 def draw(*words: str, status: int = 0) -> subprocess.CompletedProcess[str]:
-    done = subprocess.run([sys.executable, str(TOP / "tools/vma"), "draw", *words], capture_output=True, text=True)
+    done = vma("draw", *words)
     assert done.returncode == status and "Traceback" not in done.stderr, done.stderr
     return done
 
@@ -50,7 +48,7 @@ class Widths(unittest.TestCase):
         self.assertNotIn("area", drawn("examples/tour.trace").replace("aria", ""))
 
 
-class Pages(unittest.TestCase):
+class Pages(InFolder):
     def test_a_page_of_each_example_asks_for_nothing_and_its_pictures_are_xml(self) -> None:
         for trace in (path for pattern in ("*.trace", "calls/*.trace") for path in (TOP / "examples").glob(pattern)):
             with self.subTest(trace.name):
@@ -64,10 +62,8 @@ class Pages(unittest.TestCase):
         self.assertEqual(draw("--list", "6", *TOUR).stdout, "maps 4\n" + OUTPUT.split("maps 4\n")[1])
 
     def test_a_wrong_output_is_marked_and_what_is_none_is_refused(self) -> None:
-        with tempfile.TemporaryDirectory() as folder:
-            wrong = f"{folder}/wrong.out"
-            Path(wrong).write_text(OUTPUT.replace("-1 ENOMEM", "0x100000"))
-            told = draw(TOUR[0], wrong, status=1).stderr
-            self.assertIn("line 9: the output says v5 = 0x100000, and the model v5 = -1 ENOMEM", told)
-            for words in ([wrong + "x", wrong], [wrong, wrong], [*TOUR, "--list", "7"]):
-                draw(*words, status=2)
+        wrong = str(self.put("wrong.out", OUTPUT.replace("-1 ENOMEM", "0x100000")))
+        told = draw(TOUR[0], wrong, status=1).stderr
+        self.assertIn("line 9: the output says v5 = 0x100000, and the model v5 = -1 ENOMEM", told)
+        for words in ([wrong + "x", wrong], [wrong, wrong], [*TOUR, "--list", "7"]):
+            draw(*words, status=2)

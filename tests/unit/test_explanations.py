@@ -1,5 +1,4 @@
 """The sentences on bad lines, and on maps texts that `retrace` does not take."""
-from __future__ import annotations
 
 import unittest
 

@@ -1,11 +1,9 @@
 """The maker of docs/HEADLINE.md: what the headline reaches, and in which order it is shown."""
-from __future__ import annotations
 
-import tempfile
 import unittest
-from pathlib import Path
 
 from dev.reference import headline
+from unit.common import InFolder
 from vmatools.running.program import TOP
 
 RUN = """ghost use Rattle.std.specs.Prelude.{ℕ};
@@ -57,11 +55,9 @@ pub enum Kind {
 """
 
 
-class Toy(unittest.TestCase):
+class Toy(InFolder):
     def setUp(self) -> None:
-        self.folder = tempfile.TemporaryDirectory()
-        self.addCleanup(self.folder.cleanup)
-        self.top = Path(self.folder.name)
+        super().setUp()
         for name, text in (
             ("vma_replay/src/lib.rt", "//! Replays.\n\npub use run::replay;\n"),
             ("vma_replay/src/run.rt", RUN),
@@ -69,9 +65,7 @@ class Toy(unittest.TestCase):
             ("farm/specs/Flocks.antt", FLOCKS),
             ("farm/src/flock.rt", FLOCK),
         ):
-            path = self.top / "crates" / name
-            path.parent.mkdir(parents=True, exist_ok=True)
-            path.write_text(text, encoding="utf-8")
+            self.put(f"crates/{name}", text)
 
     def test_what_is_named_is_reached_and_nothing_else(self) -> None:
         nodes, code = headline.reached(self.top)
@@ -93,13 +87,11 @@ class Toy(unittest.TestCase):
         self.assertIn("- [`Kind`](../crates/farm/src/flock.rt#L4) of farm: A kind of animal.", made)
 
     def test_a_definition_without_words_is_named(self) -> None:
-        path = self.top / "crates/farm/specs/Flocks.antt"
-        path.write_text(path.read_text(encoding="utf-8").replace("-- a flock of so many\n", ""), encoding="utf-8")
+        self.put("crates/farm/specs/Flocks.antt", FLOCKS.replace("-- a flock of so many\n", ""))
         self.assertEqual(headline.without_words(self.top), ["crates/farm/specs/Flocks.antt:3: IsFlock has no comment"])
 
     def test_a_name_that_is_nowhere_is_an_error(self) -> None:
-        path = self.top / "crates/vma_replay/src/run.rt"
-        path.write_text(path.read_text(encoding="utf-8").replace("GivesAll", "GivesMore"), encoding="utf-8")
+        self.put("crates/vma_replay/src/run.rt", RUN.replace("GivesAll", "GivesMore"))
         with self.assertRaisesRegex(ValueError, "vma_replay/specs/Giving.antt defines no GivesMore"):
             headline.reached(self.top)
 

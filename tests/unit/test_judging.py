@@ -1,5 +1,4 @@
 """Outputs that are judged and drawn: judge and draw agree, and a picture is well-formed whatever stands in it."""
-from __future__ import annotations
 
 import io
 import random

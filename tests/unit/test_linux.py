@@ -1,21 +1,14 @@
 """Linux's model: its versions, its settings, and what it says of single rules."""
-from __future__ import annotations
 
 import argparse
 import gzip
-import subprocess
-import sys
-import tempfile
 import unittest
 from dataclasses import replace
 from itertools import pairwise
-from pathlib import Path
 from unittest import mock
 
 from models.loading import module_of
-
-TOP = Path(__file__).resolve().parents[2]
-sys.path.insert(0, str(TOP / "tools"))
+from unit.common import InFolder, vma as run
 from vmatools import oracles, traces
 from vmatools.commands import conform
 from vmatools.comparing import answers as answers_of_models
@@ -25,6 +18,7 @@ from vmatools.linux.areas import NotModelled
 from vmatools.linux.kernel import Kernel, Settings, kernel_of, running_version
 from vmatools.linux.space import LinuxSpace
 from vmatools.linux.versions import WrongOracle
+from vmatools.running.program import TOP
 from vmatools.systems import rows
 
 ANONYMOUS = "MAP_PRIVATE|MAP_ANONYMOUS|MAP_FIXED -1 0"
@@ -182,7 +176,7 @@ class NotGuessed(unittest.TestCase):
         self.assertEqual([gap.line for gap in gaps], [3])
 
 
-class Pages(unittest.TestCase):
+class Pages(InFolder):
     def cells(self, *lines: str, case: str = "") -> list[str]:
         return by_version.Told("a-row", case, trace_of(*lines), kernel_of("6.18")).cells()
 
@@ -231,40 +225,37 @@ class Pages(unittest.TestCase):
 
     def test_recorded_traces_are_asked_again(self) -> None:
         """Each once, whichever version has it, and no others where they are enough."""
-        with tempfile.TemporaryDirectory() as folder:
-            given = {"6.12.117": ["hard-1"], "6.17.13": ["directed-a"], "6.18.44": ["directed-a", "directed-b"]}
-            for version, names in given.items():
-                found = [vectors.Vector(name, "vmatrace 1\n0 maps\n", "L2 t0 v0 = maps 0\nmaps 0\n") for name in names]
-                Path(folder, version).mkdir()
-                Path(folder, version, vectors.FILE).write_bytes(vectors.written(kernel_of(version), found))
-            names = ["hard-1", "directed-a", "directed-b"]
-            self.assertEqual(list(vectors.recorded(Path(folder))), names)
-            tool = module_of(TOP / "dev/linux-versions")
-            for add, asked in (([], names), ([Path(folder, "c.trace")], ["directed-c"])):
-                Path(folder, "c.trace").write_text("vmatrace 1\n0 brk 0\n")
-                words = argparse.Namespace(images=["native"], vectors=1, record=Path(folder), add=add)
-                with mock.patch.object(tool, "words", lambda words=words: words), mock.patch.object(tool, "hold_image") as hold:
-                    self.assertEqual(tool.main(), 0)
-                self.assertEqual([name for name, _ in hold.call_args[0][2]], asked)
-            self.assertEqual(len(tool.asked(Path(folder), 3)), len(names) + 3)
+        given = {"6.12.117": ["hard-1"], "6.17.13": ["directed-a"], "6.18.44": ["directed-a", "directed-b"]}
+        for version, names in given.items():
+            found = [vectors.Vector(name, "vmatrace 1\n0 maps\n", "L2 t0 v0 = maps 0\nmaps 0\n") for name in names]
+            self.put(f"{version}/{vectors.FILE}", "").write_bytes(vectors.written(kernel_of(version), found))
+        names = ["hard-1", "directed-a", "directed-b"]
+        self.assertEqual(list(vectors.recorded(self.top)), names)
+        tool = module_of(TOP / "dev/linux-versions")
+        added = self.put("c.trace", "vmatrace 1\n0 brk 0\n")
+        for add, asked in (([], names), ([added], ["directed-c"])):
+            words = argparse.Namespace(images=["native"], vectors=1, record=self.top, add=add)
+            with mock.patch.object(tool, "words", lambda words=words: words), mock.patch.object(tool, "hold_image") as hold:
+                self.assertEqual(tool.main(), 0)
+            self.assertEqual([name for name, _ in hold.call_args[0][2]], asked)
+        self.assertEqual(len(tool.asked(self.top, 3)), len(names) + 3)
 
     def test_what_is_added_stands_beside_what_the_same_machine_answered(self) -> None:
         tool, kernel = module_of(TOP / "dev/linux-versions"), kernel_of("6.18")
         told = (("a", "1\n"), ("b", "2\n"), ("a", "3\n"))
         one, other, new = (vectors.Vector(name, "vmatrace 1\n", answer) for name, answer in told)
-        with tempfile.TemporaryDirectory() as folder:
-            path = Path(folder, vectors.FILE)
-            path.write_bytes(vectors.written(kernel, [one, other]))
-            self.assertEqual(tool.kept(path, kernel, [new]), [other])
-            with self.assertRaisesRegex(Failure, "and this is linux-6.18.44 .*keys=0.*: record all again"):
-                tool.kept(path, kernel_of("6.18", Settings(keys=0)), [new])
+        path = self.top / vectors.FILE
+        path.write_bytes(vectors.written(kernel, [one, other]))
+        self.assertEqual(tool.kept(path, kernel, [new]), [other])
+        with self.assertRaisesRegex(Failure, "and this is linux-6.18.44 .*keys=0.*: record all again"):
+            tool.kept(path, kernel_of("6.18", Settings(keys=0)), [new])
 
     def test_a_file_that_is_none_is_named(self) -> None:
         for data in (b"", b"text", gzip.compress(b"# linux-5\n")):
-            with tempfile.NamedTemporaryFile() as file:
-                Path(file.name).write_bytes(data)
-                with self.assertRaisesRegex(WrongOracle, "it is no file of vectors"):
-                    vectors.read(Path(file.name))
+            path = self.put("none", "")
+            path.write_bytes(data)
+            with self.assertRaisesRegex(WrongOracle, "it is no file of vectors"):
+                vectors.read(path)
 
 
 class Rows(unittest.TestCase):
@@ -289,23 +280,20 @@ class Generators(unittest.TestCase):
             self.assertTrue(selecting.apart(traces.read_trace(trace.text().encode()), selecting.kernels()))
 
 
-class Commands(unittest.TestCase):
+class Commands(InFolder):
     """The subcommands that take `--as`."""
 
     def vma(self, *words: str, text: str = "") -> tuple[int, str, str]:
-        done = subprocess.run([sys.executable, str(TOP / "tools/vma"), *words], input=text, capture_output=True, text=True)
+        done = run(*words, input=text)
         return done.returncode, done.stdout, done.stderr
 
     def test_serial_and_judge_take_linux(self) -> None:
         text = trace_of(f"0 mmap 0x100000 4096 PROT_EXEC {ANONYMOUS}", "0 fault 0x100000 r").text()
         status, output, _ = self.vma("serial", "--as", "linux-6.18", text=text)
         self.assertEqual((status, output.splitlines()[1]), (0, "L4 t0 v1 = SIGSEGV SEGV_PKUERR"))
-        with tempfile.TemporaryDirectory() as folder:
-            for name, data in (("a.trace", text), ("a.out", output)):
-                Path(folder, name).write_text(data)
-            for oracle, said in (("linux-6.18", "legal\n"), ("linux-6.18,keys=0", "not legal: line 2"), ("profile", "not legal")):
-                words = ("judge", "--as", oracle, str(Path(folder, "a.trace")), str(Path(folder, "a.out")))
-                self.assertIn(said, self.vma(*words)[1])
+        paths = [str(self.put("a.trace", text)), str(self.put("a.out", output))]
+        for oracle, said in (("linux-6.18", "legal\n"), ("linux-6.18,keys=0", "not legal: line 2"), ("profile", "not legal")):
+            self.assertIn(said, self.vma("judge", "--as", oracle, *paths)[1])
 
     def test_a_line_that_is_not_modelled_is_an_error(self) -> None:
         status, _, message = self.vma("serial", "--as", "linux-6.18", text="vmatrace 1\n0 brk 0x100000\n")
@@ -342,19 +330,17 @@ class Commands(unittest.TestCase):
         mapped = "0 mmap 0x100000 4096 PROT_READ MAP_SHARED|MAP_FIXED 3 0"
         lines = (mapped, f"0 mmap 0x200000 4096 PROT_EXEC {ANONYMOUS}", "0 fault 0x200000 r")
         text = trace_of("file 3 r 4096 8:1 7 /a", *lines).text()
-        with tempfile.TemporaryDirectory() as folder:
-            trace, output = Path(folder, "a.trace"), Path(folder, "a.out")
-            trace.write_text(text)
-            output.write_text(self.vma("serial", "--as", "profile", str(trace))[1])
-            status, page, message = self.vma("draw", "--as", "linux-6.18", str(trace), str(output))
-            self.assertIn("the output says v2 = served", message)
-            self.assertIn("and linux-6.18.44 v2 = SIGSEGV SEGV_PKUERR", message)
-            self.assertEqual((status, "A run of a.trace, beside linux-6.18.44" in page), (1, True))
-            self.assertEqual(self.vma("draw", "--as", "linux-6.18,keys=0", "--svg", str(trace), str(output))[0], 0)
-            drawn = self.vma("draw", "--as", "linux-6.18", "--list", "2", str(trace))[1]
-            self.assertEqual(drawn, "maps" + self.vma("serial", "--as", "linux-6.18", str(trace))[1].split("maps")[1])
-            trace.write_text("vmatrace 1\n0 brk 0\n")
-            self.assertIn("line 2: every process has a break", self.vma("draw", "--as", "linux-6.18", str(trace))[2])
+        trace = self.put("a.trace", text)
+        output = self.put("a.out", self.vma("serial", "--as", "profile", str(trace))[1])
+        status, page, message = self.vma("draw", "--as", "linux-6.18", str(trace), str(output))
+        self.assertIn("the output says v2 = served", message)
+        self.assertIn("and linux-6.18.44 v2 = SIGSEGV SEGV_PKUERR", message)
+        self.assertEqual((status, "A run of a.trace, beside linux-6.18.44" in page), (1, True))
+        self.assertEqual(self.vma("draw", "--as", "linux-6.18,keys=0", "--svg", str(trace), str(output))[0], 0)
+        drawn = self.vma("draw", "--as", "linux-6.18", "--list", "2", str(trace))[1]
+        self.assertEqual(drawn, "maps" + self.vma("serial", "--as", "linux-6.18", str(trace))[1].split("maps")[1])
+        trace.write_text("vmatrace 1\n0 brk 0\n")
+        self.assertIn("line 2: every process has a break", self.vma("draw", "--as", "linux-6.18", str(trace))[2])
 
     def test_explain_names_the_rows(self) -> None:
         lines = ["vmatrace 1", "0 brk 0", "# a seal", f"0 mmap 0x100000 8192 {WRITE}", "0 mseal 0x101000 4096 0"]
@@ -378,20 +364,15 @@ class Commands(unittest.TestCase):
         self.assertIn("--as stands in the place of the kernel of --system", message)
 
     def test_emitted_answers_name_their_kernel(self) -> None:
-        with tempfile.TemporaryDirectory() as folder:
-            words = ("--runs", "2", "--profile", "few", "--as", "linux-6.12,keys=0", folder)
-            self.assertEqual(self.vma("emit", *words)[0], 0)
-            head, output = Path(folder, "few-1-0.out").read_text().split("\n", 1)
-            oracle = oracles.oracle_of(head.removeprefix("# "))
-            self.assertEqual(oracle, oracles.oracle_of("linux-6.12,keys=0"))
-            self.assertEqual(oracle.output(traces.read_trace(Path(folder, "few-1-0.trace").read_bytes())), output)
+        words = ("--runs", "2", "--profile", "few", "--as", "linux-6.12,keys=0", str(self.top))
+        self.assertEqual(self.vma("emit", *words)[0], 0)
+        head, output = (self.top / "few-1-0.out").read_text().split("\n", 1)
+        oracle = oracles.oracle_of(head.removeprefix("# "))
+        self.assertEqual(oracle, oracles.oracle_of("linux-6.12,keys=0"))
+        self.assertEqual(oracle.output(traces.read_trace((self.top / "few-1-0.trace").read_bytes())), output)
 
     def test_the_version_says_what_an_oracle_is(self) -> None:
         status, output, _ = self.vma("--version", "--as", "linux-6.12")
         self.assertEqual(status, 0)
         self.assertIn("linux-6.12.117 built=0x10000", output)
         self.assertIn("tested against kernels, not proved", output)
-
-
-if __name__ == "__main__":
-    unittest.main()

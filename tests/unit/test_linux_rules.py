@@ -1,12 +1,12 @@
 """Tests of dev/linux_rules: terms of recorded traces, the rules of versions, resolved switches, and the evaluation."""
-from __future__ import annotations
 
 import unittest
 from dataclasses import replace
 from typing import Any
 
-from dev.linux_rules import choosing, evaluating, plant, planted, planting, recordings, resolving, terms, versions
+from dev.linux_rules import choosing, evaluating, plant, planted, planting, recordings, resolving, statements, terms, versions
 from dev.linux_rules.planted import PLANTED
+from unit.common import InFolder
 from vmatools.linux.kernel import Settings
 from vmatools.running.program import TOP
 from vmatools.traces import read_trace
@@ -59,6 +59,17 @@ class TestTerms(unittest.TestCase):
     def test_a_line_that_names_no_file_is_no_term(self) -> None:
         with self.assertRaises(terms.Unsayable):
             terms.maps_line(read_trace(TRACE), "00100000-00101000 r--p 00000000 08:01 78   /lib/other")
+
+
+class TestModules(InFolder):
+    def test_what_is_made_has_its_line(self) -> None:
+        made = ("pub mod Sides\npub mod Rows1\npub mod Rows3\npub mod Faulting\n", "mod Rows1\nmod Rows3\n")
+        for text, wanted in (
+            ("pub mod Sides\npub mod Rows1\npub mod Rows2\npub mod Faulting\n", made[0]),
+            ("pub mod Sides\npub mod Faulting\n", "pub mod Sides\npub mod Faulting\npub mod Rows1\npub mod Rows3\n"),
+        ):
+            self.assertEqual(statements.modules(self.put("specs/Lib.antt", text), ["Rows1", "Rows3"]), wanted)
+        self.assertEqual(statements.modules(self.put("proofs/Lib.antt", "mod Rows1\n"), ["Rows1", "Rows3"]), made[1])
 
 
 class TestVersions(unittest.TestCase):
@@ -147,7 +158,3 @@ class TestPlanted(unittest.TestCase):
         self.assertIn("1 traces  1 rows", plant.said(self.planted, [long], [short]))
         self.assertTrue(plant.said(self.planted, [long], [short]).endswith("a rule: short"))
         self.assertTrue(plant.said(self.planted._replace(reason=""), [], []).endswith("a rule: nothing notices it"))
-
-
-if __name__ == "__main__":
-    unittest.main()

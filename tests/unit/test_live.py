@@ -1,24 +1,39 @@
 """Traces for diltzekun-live: the order of its answers, a session that answers one trace after another, and where it is found."""
-from __future__ import annotations
 
 import argparse
 import os
 import sys
-import tempfile
 import textwrap
 import unittest
-from pathlib import Path
 from typing import Any
 from unittest import mock
 
+from unit.common import InFolder
 from vmatools import console
 from vmatools.commands import compare, conform
-from vmatools.comparing import campaign, comparison, conformance, findings
-from vmatools.running import live, program
+from vmatools.comparing import campaign, comparison, conformance, findings, generator
+from vmatools.profile.serial import serial_output
+from vmatools.running import forks, live, program
 from vmatools.systems.batch import Adapters
 from vmatools.traces import read_trace
 
 FORK = b"vmatrace 1\n0 fork 1\n0 maps\n"
+# Reads of one version by several threads, before forks and in children.
+FORKS = b"""vmatrace 1
+5 maps
+3 mmap 0x10000 4096 PROT_READ MAP_PRIVATE|MAP_ANONYMOUS|MAP_FIXED -1 0
+7 maps
+1 fork 2
+0 maps
+2 maps
+2 munmap 0x10000 4096
+2 maps
+0 munmap 0x10000 8192
+5 fork 9
+9 brk 0
+9 maps
+3 maps
+"""
 EMPTY = b"vmatrace 1\n0 munmap 0x10000 4096\n0 maps\n"
 ANSWERS = "L2 t0 v1 = 0\nL3 t0 v1 = maps 0\nmaps 0\n"
 # A session with no memory. It doesn't fork, ends at a `fault`, and is silent at an `mseal`.
@@ -43,7 +58,7 @@ SESSION = textwrap.dedent(
             sys.exit(6)
         elif words[1:2] == ["mseal"]:
             sys.stdin.readline(), sys.stdin.read()
-        elif words[0] != "vmatrace":
+        elif words[0] not in ("vmatrace", "#"):
             version += 1
             print(f"L{number} t{words[0]} v{version} = 0")
     """
@@ -102,6 +117,13 @@ class Sessions(unittest.TestCase):
             self.assertEqual(self.adapter.run(EMPTY, 30).output, ANSWERS)
         self.assertIs(self.adapter.process, process)
 
+    def test_many_traces_are_answered_up_to_one_that_is_refused(self) -> None:
+        refused = b"vmatrace 1\nnew\n0 maps\n"
+        answers = self.adapter.run_all([EMPTY, FORK, EMPTY, refused, EMPTY], 30)
+        self.assertEqual([answer.output for answer in answers], [ANSWERS, "", ANSWERS])
+        self.assertEqual(answers[1].fault, conformance.CANNOT_RUN)
+        self.assertEqual([answer.fault for answer in self.adapter.run_all([refused, EMPTY], 30)], ["ends with status 3"])
+
     def test_a_session_that_ends_or_hangs_is_another_one_then(self) -> None:
         ends, hangs = b"vmatrace 1\n0 fault 0 r\n", b"vmatrace 1\n0 mseal 0 0 0\n"
         self.assertEqual(self.adapter.run(ends, 30).fault, "ends with status 6")
@@ -128,17 +150,32 @@ class InComparison(unittest.TestCase):
     def test_a_trace_goes_to_a_session(self) -> None:
         self.assertEqual(self.sides.program_output(read_trace(EMPTY)), ANSWERS)
 
-    def test_a_fork_and_what_a_session_fails_on_go_to_the_program(self) -> None:
-        for text in (FORK, b"vmatrace 1\n0 fault 0x1000 r\n"):
+    def test_what_a_session_fails_on_goes_to_the_program(self) -> None:
+        for text in (b"vmatrace 1\n0 fault 0x1000 r\n", FORK + b"1 fault 0x1000 r\n"):
             with mock.patch.object(self.sides, "by_serial", lambda _: "maps 7\n"):
                 self.assertEqual(self.sides.program_output(read_trace(text)), "maps 7\n")
 
-    def test_a_model_that_answers_a_fork_in_its_place_is_held_to_the_program(self) -> None:
-        self.sides.adapters = self.sides.live
+    def test_both_sides_answer_many_traces_at_once(self) -> None:
+        traces = [read_trace(EMPTY), read_trace(FORK), read_trace(EMPTY)]
+        self.assertEqual(self.sides.seen(traces), [comparison.Seen()] * 3)
+        self.sides.adapters = Adapters([sys.executable, "-c", SESSION], live.LiveAdapter)
+        self.addCleanup(self.sides.adapters.close)
+        first, fork, last = self.sides.seen(traces)
+        assert first.there and fork.there
+        self.assertEqual((first.there.output, first.right), (ANSWERS, ANSWERS))
+        self.assertEqual((fork.there.fault, last), (conformance.CANNOT_RUN, first))
+        self.assertEqual(fork.right, serial_output(read_trace(FORK)))
+        with mock.patch.object(self.sides, "there", side_effect=AssertionError):
+            self.assertEqual(comparison.examine(self.sides, traces[0], seen=first), comparison.Examined())
+            told = comparison.examine(self.sides, traces[0], seen=comparison.Seen(fork.there, ANSWERS))
+        self.assertEqual(told.left_out, "diltzekun-live doesn't fork")
+
+    def test_a_model_that_answers_in_its_place_is_held_to_the_program(self) -> None:
+        self.sides.adapters, self.sides.live = self.sides.live, None
         examiner = campaign.Campaign(campaign.Settings([], ["few"], 1), self.sides, findings.Findings())
         with mock.patch.object(self.sides, "by_serial", lambda _: "maps 7\n"):
             with self.assertRaisesRegex(comparison.CannotRun, "the model of the tools answers otherwise"):
-                examiner.examined(campaign.Source(0, "", [], lambda: read_trace(FORK)))
+                examiner.examined_all([campaign.Source(0, "", [], lambda: read_trace(FORK))])
 
     def test_a_smallest_trace_is_held_to_the_program(self) -> None:
         trace = read_trace(EMPTY)
@@ -149,17 +186,31 @@ class InComparison(unittest.TestCase):
                 self.sides.confirm_smallest(trace)
 
 
-class Places(unittest.TestCase):
+class Forks(unittest.TestCase):
+    """A trace that forks is answered by a session for each space, as `serial` prints it."""
+
+    def test_it_is_as_by_serial(self) -> None:
+        sides = comparison.Sides("/no/program", [], 10, comparison.Rules())
+        sides.live = Adapters([str(program.LIVE.model)], live.LiveAdapter)
+        self.addCleanup(sides.live.close)
+        suite = [read_trace(path.read_bytes()).numbered() for path in conformance.cases_in_order(False) if "fork" in path.name]
+        drawn = [generator.Generator("fork", f"sessions {number}", 25).draw() for number in range(20)]
+        threads = [read_trace(FORKS)]
+        traces = [trace for trace in [*suite, *drawn, *threads] if forks.forks_of(trace)]
+        self.assertGreater(len(traces), 10)
+        answers = sides.by_sessions(traces)
+        for place, trace in enumerate(traces):
+            self.assertEqual(answers[place], serial_output(trace), trace.text())
+
+
+class Places(InFolder):
     """Which diltzekun-live is taken."""
 
     def setUp(self) -> None:
-        folder = tempfile.TemporaryDirectory()
-        self.addCleanup(folder.cleanup)
-        self.made = {name: os.path.join(folder.name, name) for name in ("given", "diltzekun", "diltzekun-live", "other")}
-        for path in self.made.values():
-            Path(path).write_text("#!/bin/sh\n")
-            os.chmod(path, 0o755)
-        self.environment = {"PATH": folder.name}
+        super().setUp()
+        names = ("given", "diltzekun", "diltzekun-live", "other")
+        self.made = {name: str(self.put_program(name, "")) for name in names}
+        self.environment = {"PATH": str(self.top)}
 
     def test_the_one_from_where_the_program_is(self) -> None:
         with mock.patch.dict(os.environ, self.environment, clear=True):

@@ -1,5 +1,4 @@
 """The model, on the suite of cases: one or more for each row of the tables of docs/MODEL.md."""
-from __future__ import annotations
 
 import unittest
 from pathlib import Path

@@ -1,22 +1,18 @@
 """The check of the documents' tables: what it reads of a page and of the sources."""
-from __future__ import annotations
 
 import shutil
-import tempfile
-import unittest
 from pathlib import Path
 
 import model_tables
 
 from dev.reference import call_tables
+from unit.common import InFolder
 from vmatools.running.program import TOP
 
 
-class Tables(unittest.TestCase):
+class Tables(InFolder):
     def setUp(self) -> None:
-        folder = tempfile.TemporaryDirectory()
-        self.addCleanup(folder.cleanup)
-        self.top = Path(folder.name)
+        super().setUp()
         (self.top / "docs").mkdir()
         for page in (call_tables.PAGE, model_tables.FLAGS):
             shutil.copy(TOP / page, self.top / page)

@@ -1,57 +1,40 @@
 """Which public names of the definitions stand twice."""
-from __future__ import annotations
-
-import tempfile
-import unittest
-from pathlib import Path
 
 import names
 
+from unit.common import InFolder
 
-class Names(unittest.TestCase):
-    def setUp(self) -> None:
-        folder = tempfile.TemporaryDirectory()
-        self.addCleanup(folder.cleanup)
-        self.top = Path(folder.name)
 
-    def put(self, path: str, text: str) -> None:
-        place = self.top / "crates" / path
-        place.parent.mkdir(parents=True, exist_ok=True)
-        place.write_text(text, encoding="utf-8")
-
+class Names(InFolder):
     def test_a_name_that_stands_twice(self) -> None:
-        self.put("high/specs/Lines.antt", "pub mod Lines\nabbrev pub end_of : ℕ\nend_of = 1\n")
+        self.put("crates/high/specs/Lines.antt", "pub mod Lines\nabbrev pub end_of : ℕ\nend_of = 1\n")
         record = "pub record end_of (a : ℕ) : Type 0 where\n  pub end : ℕ\n"
-        self.put("low/specs/Internal/Items.antt", f"{record}unfoldable pub end : ℕ\n")
+        self.put("crates/low/specs/Internal/Items.antt", f"{record}unfoldable pub end : ℕ\n")
         found = "`end_of` stands in high: Lines.antt, low: Internal/Items.antt"
         self.assertEqual(list(names.repeated(self.top)), [found])
 
     def test_private_names_and_fields_may_repeat(self) -> None:
-        self.put("high/specs/Lines.antt", "abbrev end : ℕ\npub record Line : Type 0 where\n  pub end : ℕ\n")
-        self.put("low/specs/Items.antt", "pub end : ℕ\n")
+        self.put("crates/high/specs/Lines.antt", "abbrev end : ℕ\npub record Line : Type 0 where\n  pub end : ℕ\n")
+        self.put("crates/low/specs/Items.antt", "pub end : ℕ\n")
         self.assertEqual(list(names.repeated(self.top)), [])
 
     def test_the_kernel_has_names_of_the_profile_for_the_same(self) -> None:
-        self.put("area_rules/specs/Mmap.antt", "unfoldable pub mmap : ℕ\nabbrev pub step : ℕ\n")
-        self.put("linux_rules/specs/Mmap.antt", "unfoldable pub mmap : ℕ\nabbrev pub step : ℕ\n")
+        self.put("crates/area_rules/specs/Mmap.antt", "unfoldable pub mmap : ℕ\nabbrev pub step : ℕ\n")
+        self.put("crates/linux_rules/specs/Mmap.antt", "unfoldable pub mmap : ℕ\nabbrev pub step : ℕ\n")
         self.assertEqual(list(names.repeated(self.top)), ["`step` stands in area_rules: Mmap.antt, linux_rules: Mmap.antt"])
-        self.put("low/specs/Calls.antt", "abbrev pub mmap : ℕ\n")
+        self.put("crates/low/specs/Calls.antt", "abbrev pub mmap : ℕ\n")
         self.assertEqual(len(list(names.repeated(self.top))), 2)
 
     def test_statements_of_versions_repeat(self) -> None:
         for version in ("6_1", "6_18_15"):
-            self.put(f"linux_rules/specs/Linux_{version}.antt", "pub hard_3 : Type 0\n")
+            self.put(f"crates/linux_rules/specs/Linux_{version}.antt", "pub hard_3 : Type 0\n")
         self.assertEqual(list(names.repeated(self.top)), [])
 
     def test_internal_is_the_crate_s_own(self) -> None:
-        self.put("low/proofs/Own.antt", "use Rattle.low.specs.Internal.Items.{end}\n")
-        self.put("low/src/lib.rt", "#[tactic(auto, unfolding(crate::specs::Internal::Items::end))]\n")
+        self.put("crates/low/proofs/Own.antt", "use Rattle.low.specs.Internal.Items.{end}\n")
+        self.put("crates/low/src/lib.rt", "#[tactic(auto, unfolding(crate::specs::Internal::Items::end))]\n")
         self.assertEqual(list(names.trespasses(self.top)), [])
-        self.put("high/proofs/End.antt", "use Rattle.low.specs.Internal.Items.{end}\n")
-        self.put("high/src/lib.rt", "#[tactic(auto, unfolding(low::specs::Internal::Items::end))]\n")
+        self.put("crates/high/proofs/End.antt", "use Rattle.low.specs.Internal.Items.{end}\n")
+        self.put("crates/high/src/lib.rt", "#[tactic(auto, unfolding(low::specs::Internal::Items::end))]\n")
         found = [f"crates/high/{path} cites Internal of low" for path in ("proofs/End.antt", "src/lib.rt")]
         self.assertEqual(list(names.trespasses(self.top)), found)
-
-
-if __name__ == "__main__":
-    unittest.main()

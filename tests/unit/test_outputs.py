@@ -1,5 +1,4 @@
 """Outputs that are compared: the kinds of what differs."""
-from __future__ import annotations
 
 import re
 import unittest

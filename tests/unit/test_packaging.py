@@ -1,8 +1,6 @@
 """What a package has beside files of the repository: manual pages and completion, and what its programs need."""
-from __future__ import annotations
 
 import argparse
-import tempfile
 import unittest
 from pathlib import Path
 from unittest import mock
@@ -11,6 +9,7 @@ import tomllib
 
 from dev.packaging import completion, manual
 from models.loading import module_of
+from unit.common import InFolder
 from vmatools import VERSION, cli, versions
 from vmatools.running import program
 from vmatools.running.program import TOP
@@ -45,7 +44,7 @@ class Completion(unittest.TestCase):
         self.assertEqual(completion.quoted("isn't"), "'isn'\\''t'")
 
 
-class Package(unittest.TestCase):
+class Package(InFolder):
     def test_what_the_programs_need(self) -> None:
         package = module_of(TOP / "dev/package")
         for told, needs in (
@@ -60,20 +59,16 @@ class Package(unittest.TestCase):
 
     def test_only_programs_whose_sums_the_full_check_noted_are_called_proved(self) -> None:
         package = module_of(TOP / "dev/package")
-        with tempfile.TemporaryDirectory() as name:
-            folder = Path(name)
-            paths = {option: folder / option for option in ("program", "live")}
-            for option, path in paths.items():
-                path.write_text(option)
-            options = argparse.Namespace(**paths)
-            (folder / "sums").write_text("".join(f"{versions.sum_of(path)}  {path}\n" for path in paths.values()))
-            with mock.patch.object(versions, "SUMS", folder / "sums"):
-                self.assertEqual(package.sources_of(options).version, VERSION)
-                paths["live"].write_text("copied over")
-                self.assertEqual(package.sources_of(options).version, f"{VERSION}~unproved")
+        paths = {option: self.put(option, option) for option in ("program", "live")}
+        options = argparse.Namespace(**paths)
+        sums = self.put("sums", "".join(f"{versions.sum_of(path)}  {path}\n" for path in paths.values()))
+        with mock.patch.object(versions, "SUMS", sums):
+            self.assertEqual(package.sources_of(options).version, VERSION)
+            self.put("live", "copied over")
+            self.assertEqual(package.sources_of(options).version, f"{VERSION}~unproved")
 
 
-class Installed(unittest.TestCase):
+class Installed(InFolder):
     def test_all_packages_of_the_tools_are_installed(self) -> None:
         settings = tomllib.loads((TOP / "pyproject.toml").read_text(encoding="utf-8"))["tool"]["setuptools"]
         tools = TOP / "tools"
@@ -81,7 +76,7 @@ class Installed(unittest.TestCase):
         self.assertEqual(set(settings["packages"]), there | {"vmatools.suite", "vmatools.examples"})
 
     def test_what_the_tools_read_is_beside_them_or_in_the_checkout(self) -> None:
-        with tempfile.TemporaryDirectory() as folder:
-            self.assertEqual(program.top_of(Path(folder, "tools/vmatools")), Path(folder))
-            Path(folder, "tools/vmatools/suite").mkdir(parents=True)
-            self.assertEqual(program.top_of(Path(folder, "tools/vmatools")), Path(folder, "tools/vmatools"))
+        tools = self.top / "tools/vmatools"
+        self.assertEqual(program.top_of(tools), self.top)
+        (tools / "suite").mkdir(parents=True)
+        self.assertEqual(program.top_of(tools), tools)

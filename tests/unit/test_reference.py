@@ -1,11 +1,7 @@
 """The maker of the reference: what it reads of a source, and what it writes of it."""
-from __future__ import annotations
-
-import tempfile
-import unittest
-from pathlib import Path
 
 from dev.reference import definitions, pages, sources
+from unit.common import InFolder
 
 LIB = """//! Counts sheep.
 //! Slowly.
@@ -67,21 +63,14 @@ pub record IsFlock (sheep : ℕ) : Type 0 where
 """
 
 
-class Reading(unittest.TestCase):
+class Reading(InFolder):
     def setUp(self) -> None:
-        self.folder = tempfile.TemporaryDirectory()
-        self.addCleanup(self.folder.cleanup)
-        self.top = Path(self.folder.name)
+        super().setUp()
         self.put("crates.txt", "# farm\nsheep: arrayvec\n")
         self.put("crates/sheep/src/lib.rt", LIB)
         self.put("crates/sheep/src/flock.rt", FLOCK)
         self.put("crates/sheep/specs/Flocks.antt", SPECS)
         self.put("crates/sheep/must-fail/one_sheep_is_lost.edit", "file: src/flock.rt\n")
-
-    def put(self, name: str, text: str) -> None:
-        path = self.top / name
-        path.parent.mkdir(parents=True, exist_ok=True)
-        path.write_text(text, encoding="utf-8")
 
     def test_items_are_those_that_the_crate_hands_out(self) -> None:
         docs, items = sources.read_items(self.top / "crates/sheep")
@@ -123,6 +112,5 @@ class Reading(unittest.TestCase):
 
     def test_what_has_no_comment_is_listed(self) -> None:
         self.assertEqual(pages.faults(self.top), ["crates/sheep/specs/Flocks.antt:8: IsFlock has no comment"])
-        crates = self.top / "crates.txt"
-        crates.write_text(crates.read_text().replace("# farm", f"# {pages.TESTS}"))
+        self.put("crates.txt", f"# {pages.TESTS}\nsheep: arrayvec\n")
         self.assertEqual(pages.faults(self.top), [])

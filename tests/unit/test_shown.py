@@ -1,12 +1,8 @@
 """What the check of tests/shown.txt finds."""
-from __future__ import annotations
 
-import tempfile
-import unittest
-from pathlib import Path
-
-CHECKS = Path(__file__).resolve().parents[1] / "checks"
 import shown
+
+from unit.common import InFolder
 
 LIBRARY = """
 pub use one::{first, Holder};
@@ -51,23 +47,16 @@ A program | program | rows
 """
 
 
-class Table(unittest.TestCase):
+class Table(InFolder):
     def setUp(self) -> None:
-        folder = tempfile.TemporaryDirectory()
-        self.addCleanup(folder.cleanup)
-        self.top = Path(folder.name)
-        self.write("crates/low/src/lib.rt", LIBRARY)
-        self.write("crates/low/src/one.rt", SOURCE)
-        self.write("crates/low/must-fail/breaks.edit", "")
-        self.write("crates/rows/stdin", "row the row\nrun: serial\n\nrow another row\nrun: serial\n")
-        self.write("crates/rows/stdout", "")
-        self.write("suite/calls/mmap.trace", "")
-        self.write("tests/shown.txt", TABLE)
-
-    def write(self, name: str, text: str) -> None:
-        path = self.top / name
-        path.parent.mkdir(parents=True, exist_ok=True)
-        path.write_text(text, encoding="utf-8")
+        super().setUp()
+        self.put("crates/low/src/lib.rt", LIBRARY)
+        self.put("crates/low/src/one.rt", SOURCE)
+        self.put("crates/low/must-fail/breaks.edit", "")
+        self.put("crates/rows/stdin", "row the row\nrun: serial\n\nrow another row\nrun: serial\n")
+        self.put("crates/rows/stdout", "")
+        self.put("suite/calls/mmap.trace", "")
+        self.put("tests/shown.txt", TABLE)
 
     def refused(self, what: str) -> None:
         with self.assertRaisesRegex(shown.Wrong, what):
@@ -77,7 +66,7 @@ class Table(unittest.TestCase):
         self.assertEqual(shown.check(self.top), [])
 
     def test_what_nothing_shows_is_handed_back(self) -> None:
-        self.write("tests/shown.txt", TABLE.replace("and `low::Holder::second`", "") + "`low::Holder::second` | none | no test\n")
+        self.put("tests/shown.txt", TABLE.replace("and `low::Holder::second`", "") + "`low::Holder::second` | none | no test\n")
         self.assertEqual(shown.check(self.top), [shown.Line(8, "`low::Holder::second`", "none", "no test")])
 
     def test_what_is_gone_is_named(self) -> None:
@@ -88,15 +77,15 @@ class Table(unittest.TestCase):
             ("test | low::tried", 6, "test low::other"),
             ("program | rows", 7, "program other"),
         ):
-            self.write("tests/shown.txt", TABLE.replace(name, kind.replace(" ", " | ")))
+            self.put("tests/shown.txt", TABLE.replace(name, kind.replace(" ", " | ")))
             self.refused(f"line {line}: there is no {kind}")
 
     def test_a_call_that_nothing_makes_is_named(self) -> None:
-        self.write("tests/shown.txt", TABLE.replace(" and `low::Holder::second`", ""))
+        self.put("tests/shown.txt", TABLE.replace(" and `low::Holder::second`", ""))
         self.refused("no line is about low::Holder::second")
 
     def test_a_call_that_is_gone_is_named(self) -> None:
-        self.write("tests/shown.txt", TABLE.replace("`low::first`", "`low::first` and `low::fourth`"))
+        self.put("tests/shown.txt", TABLE.replace("`low::first`", "`low::first` and `low::fourth`"))
         self.refused("there is no low::fourth")
 
     def test_only_public_calls_that_can_find_no_memory(self) -> None:
@@ -104,11 +93,11 @@ class Table(unittest.TestCase):
 
     def test_lines_of_another_form(self) -> None:
         for line in ("A promise | row", "A promise | row | ", "A promise | row | the row | more"):
-            self.write("tests/shown.txt", f"{line}\n")
+            self.put("tests/shown.txt", f"{line}\n")
             self.refused("line 1 has not the form PROMISE")
-        self.write("tests/shown.txt", "A promise | proof | the row\n")
+        self.put("tests/shown.txt", "A promise | proof | the row\n")
         self.refused("line 1: 'proof' is none of edit, row, case, test, program, none")
 
     def test_rows_of_one_name(self) -> None:
-        self.write("crates/rows/stdin", "row the row\nrow the row\n")
+        self.put("crates/rows/stdin", "row the row\nrow the row\n")
         self.refused("two rows of crates/rows/stdin have the name 'the row'")

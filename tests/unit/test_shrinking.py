@@ -1,15 +1,9 @@
 """The shrinker, with tests of what differs that need no run."""
-from __future__ import annotations
 
-import sys
 import unittest
 from collections.abc import Callable
 from concurrent.futures import ThreadPoolExecutor
-from pathlib import Path
-from typing import Optional
 
-TOP = Path(__file__).resolve().parents[2]
-sys.path[:0] = [str(TOP / "tools"), str(TOP / "tests")]
 from models import mutants, wrong
 from vmatools import traces
 from vmatools.comparing import comparison, findings, generator, shrinking, smaller
@@ -22,7 +16,7 @@ Test = Callable[[traces.Trace], bool]
 def shrunk(trace: traces.Trace, differs: Test) -> list[str]:
     """The lines below the header of the smallest trace that is found."""
 
-    def first_same(candidates: list[traces.Trace]) -> Optional[int]:
+    def first_same(candidates: list[traces.Trace]) -> int | None:
         return next((place for place, candidate in enumerate(candidates) if differs(candidate)), None)
 
     return shrinking.Shrinker(trace, first_same).shrink().text().splitlines()[1:]
@@ -171,7 +165,3 @@ class Readable(unittest.TestCase):
 
         lines = shrunk(traces.read_trace(text), differs)
         self.assertEqual([line.split()[2:4] for line in lines], [["0x12000000000", "12288"], ["0x12000001000", "4096"]])
-
-
-if __name__ == "__main__":
-    unittest.main()

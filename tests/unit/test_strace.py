@@ -1,24 +1,18 @@
 """What strace writes, in each of its forms, and the trace that is made of it."""
-from __future__ import annotations
 
 import platform
 import subprocess
-import sys
-import tempfile
 import unittest
-from argparse import Namespace
 from pathlib import Path
 
 from models.loading import needs
+from unit.common import VMA, InFolder, vma as run
 from vmatools import traces
 from vmatools.commands.lists import last_list
-from vmatools.console import Failure
 from vmatools.running.program import TOP
-from vmatools.strace import importing
 from vmatools.strace.areas import read_sections
 from vmatools.strace.log import Log
 
-VMA = str(TOP / "tools/vma")
 LOGS = TOP / "tests/logs"
 EXEC = '7 execve("/bin/a", ["a"], 0x1 /* 1 var */) = 0\n'
 MMAP = "mmap(NULL, 8192, PROT_READ, MAP_PRIVATE|MAP_ANONYMOUS, -1, 0) = 0x7ffff7ffd000"
@@ -38,7 +32,7 @@ MANY = "9" * 4301
 
 
 def vma(*words: str, text: str = "") -> subprocess.CompletedProcess[str]:
-    done = subprocess.run([sys.executable, VMA, *words], input=text, capture_output=True, text=True, timeout=300)
+    done = run(*words, input=text)
     assert "Traceback" not in done.stderr, done.stderr
     return done
 
@@ -51,7 +45,7 @@ def operations(text: str) -> list[str]:
     return [traces.line_text(line) for line in traces.read_trace(text.encode()).lines]
 
 
-class Forms(unittest.TestCase):
+class Forms(InFolder):
     def test_each_form_is_the_same_trace(self) -> None:
         for name, lines in FORMS.items():
             with self.subTest(name):
@@ -66,11 +60,10 @@ class Forms(unittest.TestCase):
             ("mixed", ["--maps", str(LOGS / "mixed.maps")], ["MAP_LOCKED 2", "shmat 1", "of 1 child"]),
         )
         for name, more, left_out in logs:
-            with tempfile.TemporaryDirectory() as folder:
-                replies = Path(folder, "replies")
-                done = imported((LOGS / f"{name}.log").read_text(), "--hints", "--replies", str(replies), *more)
-                self.assertEqual(done.stdout, (LOGS / f"{name}.trace").read_text())
-                self.assertEqual(replies.read_text(), (LOGS / f"{name}.kernel").read_text())
+            replies = self.top / "replies"
+            done = imported((LOGS / f"{name}.log").read_text(), "--hints", "--replies", str(replies), *more)
+            self.assertEqual(done.stdout, (LOGS / f"{name}.trace").read_text())
+            self.assertEqual(replies.read_text(), (LOGS / f"{name}.kernel").read_text())
             for words in left_out:
                 self.assertIn(words, done.stderr)
 
@@ -90,24 +83,19 @@ class Forms(unittest.TestCase):
             self.assertEqual(operations(done.stdout), OPERATIONS[:1])
 
 
-class Maps(unittest.TestCase):
+class Maps(InFolder):
     AREA = "555555554000-555555555000 r--p 00000000 fe:00 7".ljust(73) + "{}\n"
 
     def warned(self, name: str) -> bool:
-        with tempfile.NamedTemporaryFile("w", suffix=".maps") as maps:
-            maps.write(self.AREA.format(name))
-            maps.flush()
-            done = imported(EXEC + FORMS["plain"], "--maps", maps.name)
+        done = imported(EXEC + FORMS["plain"], "--maps", str(self.put("a.maps", self.AREA.format(name))))
         self.assertEqual(done.returncode, 0, done.stderr)
         return "are these the areas of another program?" in done.stderr
 
     def test_replies_that_are_no_numbers(self) -> None:
-        with tempfile.NamedTemporaryFile("w", suffix=".maps") as maps:
-            maps.write(self.AREA.format("/bin/a"))
-            maps.flush()
-            for reply in ("0x555555556000 x", "x", "0x"):
-                done = imported(f"{EXEC}7 brk(NULL) = {reply}\n7 {MMAP}\n", "--maps", maps.name)
-                self.assertEqual(done.returncode, 0, done.stderr)
+        maps = str(self.put("a.maps", self.AREA.format("/bin/a")))
+        for reply in ("0x555555556000 x", "x", "0x"):
+            done = imported(f"{EXEC}7 brk(NULL) = {reply}\n7 {MMAP}\n", "--maps", maps)
+            self.assertEqual(done.returncode, 0, done.stderr)
 
     def test_a_name_with_the_ends_of_lines_of_other_systems(self) -> None:
         name = "/bin/a\x0b\x0c\x1c\x85\u2028"
@@ -121,23 +109,21 @@ class Maps(unittest.TestCase):
         self.assertTrue(self.warned("/bin/other"))
 
 
-class Refused(unittest.TestCase):
+class Refused(InFolder):
     def test_what_is_no_log(self) -> None:
         for text in ("", "hello\n", "\0\0\0\n", "neither\na call\nnor (a signal\n"):
             self.assertEqual(imported(text).returncode, 2)
         self.assertEqual(imported(EXEC + "7 getpid() = 7\n7 +++ exited with 0 +++\n").returncode, 1)
         log = str(LOGS / "plain.log")
-        refused: list[list[str]] = [[], ["/no/such/log"], [log, "--exec", "9"], [log, "--maps", str(VMA)]]
+        refused: list[list[str]] = [[], ["/no/such/log"], [log, "--exec", "9"], [log, "--maps", VMA[1]]]
         for words in refused:
             self.assertEqual(vma("import", *words).returncode, 2, words)
 
     def test_lines_that_end_with_a_carriage_return(self) -> None:
         why = "-: line 1: a carriage return stands at the end: lines end with a newline byte alone"
         self.assertIn(why.replace("-", "standard input", 1), imported((EXEC + FORMS["plain"]).replace("\n", "\r\n")).stderr)
-        with tempfile.NamedTemporaryFile("w", newline="") as maps:
-            maps.write(Maps.AREA.format("/bin/a").replace("\n", "\r\n"))
-            maps.flush()
-            done = imported(EXEC + FORMS["plain"], "--maps", maps.name)
+        maps = self.put("a.maps", Maps.AREA.format("/bin/a").replace("\n", "\r\n"))
+        done = imported(EXEC + FORMS["plain"], "--maps", str(maps))
         self.assertEqual(done.returncode, 2)
         self.assertIn("line 1: a carriage return stands at the end", done.stderr)
 
@@ -148,15 +134,9 @@ class Refused(unittest.TestCase):
         self.assertEqual(len(Log("hello\n" * 5_000 + EXEC).calls), 1)
 
     def test_a_list_of_which_no_trace_can_be_made(self) -> None:
-        with tempfile.NamedTemporaryFile("w") as maps:
-            maps.write("00010000-00011000 rw-p 00000000 08:01 99999999999999999999 /a\n")
-            maps.flush()
-            options = Namespace(log=None, maps=maps.name, replies=None, final=None, all=None, exec=None, fork=None)
-            options.__dict__.update(hints=False, places=False, elsewhere=True, as_returned=False, most=None)
-            with self.assertRaises(Failure) as caught:
-                importing.run(options)
-        why = f"{maps.name}: what was made of it is no trace: 99999999999999999999 is not an inode"
-        self.assertIn(why, str(caught.exception))
+        maps = self.put("a.maps", "00010000-00011000 rw-p 00000000 08:01 99999999999999999999 /a\n")
+        why = f"{maps}: what was made of it is no trace: 99999999999999999999 is not an inode"
+        self.assertIn(why, vma("import", "--elsewhere", "--maps", str(maps)).stderr)
 
     def test_replies_that_cannot_be_written(self) -> None:
         done = imported(EXEC + FORMS["plain"], "--replies", "/no/such/folder/replies")
@@ -164,22 +144,21 @@ class Refused(unittest.TestCase):
         self.assertIn("/no/such/folder/replies: No such file or directory", done.stderr)
 
 
-class Record(unittest.TestCase):
+class Record(InFolder):
     def test_wrong_use(self) -> None:
         self.assertEqual(vma("record").returncode, 125)
 
     @unittest.skipUnless(platform.machine() == "x86_64", "strace's log is read as that of x86-64")
     @needs("strace")
     def test_a_command_and_the_trace_of_its_log(self) -> None:
-        with tempfile.TemporaryDirectory() as folder:
-            front = f"{folder}/sh"
-            done = vma("record", "-o", front, "sh", "-c", "echo heard; exit 7")
-            if done.returncode == 125:
-                self.skipTest(f"strace may not trace here: {done.stderr}")
-            self.assertEqual((done.returncode, done.stdout), (7, "heard\n"), done.stderr)
-            words = ("--maps", f"{front}.maps", "--hints", "--replies", f"{front}.kernel")
-            made = traces.read_trace(vma("import", f"{front}.log", *words).stdout.encode())
-            areas = [line for line in Path(f"{front}.maps").read_text().splitlines() if not line.endswith("[vsyscall]")]
-            self.assertEqual(len(Path(f"{front}.kernel").read_text().splitlines()), len(made.lines))
-            self.assertGreaterEqual(len(made.lines), len(areas))
-            self.assertEqual(vma("record", "-o", front, "/no/such/command").returncode, 127)
+        front = f"{self.top}/sh"
+        done = vma("record", "-o", front, "sh", "-c", "echo heard; exit 7")
+        if done.returncode == 125:
+            self.skipTest(f"strace may not trace here: {done.stderr}")
+        self.assertEqual((done.returncode, done.stdout), (7, "heard\n"), done.stderr)
+        words = ("--maps", f"{front}.maps", "--hints", "--replies", f"{front}.kernel")
+        made = traces.read_trace(vma("import", f"{front}.log", *words).stdout.encode())
+        areas = [line for line in Path(f"{front}.maps").read_text().splitlines() if not line.endswith("[vsyscall]")]
+        self.assertEqual(len(Path(f"{front}.kernel").read_text().splitlines()), len(made.lines))
+        self.assertGreaterEqual(len(made.lines), len(areas))
+        self.assertEqual(vma("record", "-o", front, "/no/such/command").returncode, 127)

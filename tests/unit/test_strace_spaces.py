@@ -1,20 +1,16 @@
 """Traces of what strace wrote: each form of its lines, each address space, and what is left out."""
-from __future__ import annotations
 
+import os
 import random
 import struct
-import subprocess
-import sys
-import tempfile
 import time
 import unittest
-from pathlib import Path
 from unittest import mock
 
+from unit.common import InFolder, vma
 from vmatools.commands.lists import last_list
 from vmatools.console import Failure
 from vmatools.model import Space as Model, answer
-from vmatools.running.program import TOP
 from vmatools.strace import importing, lists, watching
 from vmatools.strace.areas import Area, area_of, read_sections, top_of
 from vmatools.strace.files import Descriptors, follow_descriptor
@@ -193,7 +189,7 @@ class Segments(unittest.TestCase):
             self.assertEqual(importer.processes.numbered(None).other["shmat"], 1)
 
 
-class Spaces(unittest.TestCase):
+class Spaces(InFolder):
     def test_an_execve_by_a_thread_that_is_not_the_first(self) -> None:
         text = (
             BEGIN
@@ -263,16 +259,11 @@ class Spaces(unittest.TestCase):
         self.assertEqual([space.final[1][0].name for space in spaces[1:] if space.final], ["/bin/a", "/bin/b"])
 
     def test_all(self) -> None:
-        with tempfile.TemporaryDirectory() as folder:
-            log = Path(folder, "log")
-            log.write_text(self.FORKED)
-            words = [sys.executable, str(TOP / "tools/vma"), "import", str(log), "--all", f"{folder}/all"]
-            self.assertEqual(subprocess.run(words, capture_output=True).returncode, 0)
-            self.assertEqual(
-                sorted(path.name for path in Path(folder, "all").iterdir()), ["exec1.kernel", "exec1.trace"]
-            )
-            for wrong in (["--most", "-1"], ["--all", "x", "--replies", "y"]):
-                self.assertEqual(subprocess.run([*words[:4], *wrong], capture_output=True).returncode, 2)
+        words = ["import", str(self.put("log", self.FORKED))]
+        self.assertEqual(vma(*words, "--all", f"{self.top}/all").returncode, 0)
+        self.assertEqual(sorted(os.listdir(self.top / "all")), ["exec1.kernel", "exec1.trace"])
+        for wrong in (["--most", "-1"], ["--all", "x", "--replies", "y"]):
+            self.assertEqual(vma(*words, *wrong).returncode, 2)
 
 
 class Costs(unittest.TestCase):
@@ -356,7 +347,7 @@ class Orders(unittest.TestCase):
         self.assertTrue(trace.is_bounded)
 
 
-class Lists(unittest.TestCase):
+class Lists(InFolder):
     def areas(self, text: str) -> list[Area]:
         return read_sections(text, "maps")[0].areas
 
@@ -435,15 +426,9 @@ class Lists(unittest.TestCase):
     def test_a_list_alone_goes_on_as_the_process(self) -> None:
         heap = "55555557a000-55555559b000 rw-p 00000000 00:00 0                          [heap]\n"
         live = MAPS.replace("7ffff7ffb000", heap + "7ffff7ffb000", 1)
-        with tempfile.TemporaryDirectory() as folder:
-            path = Path(folder, "maps")
-            path.write_text(live)
-            words = [sys.executable, str(TOP / "tools/vma"), "import", "--maps", str(path)]
-            done = subprocess.run(words, capture_output=True, check=True)
-        more = (
-            done.stdout + b"0 brk 0\n0 mmap 0 4096 PROT_READ MAP_PRIVATE|MAP_ANONYMOUS -1 0\n0 fault 0x7ffffffddff8 w\n"
-        )
-        read = read_trace(more)
+        made = vma("import", "--maps", str(self.put("maps", live)), check=True).stdout
+        more = "0 brk 0\n0 mmap 0 4096 PROT_READ MAP_PRIVATE|MAP_ANONYMOUS -1 0\n0 fault 0x7ffffffddff8 w\n"
+        read = read_trace((made + more).encode())
         model = Model(read)
         said = [answer(model, line)[0][0] for line in read.lines][-3:]
         self.assertEqual(said[:2], ["0x55555559b000", "0x7ffff7ffa000"])

@@ -1,16 +1,14 @@
 """The conformance suite's own checks: what is wrong with cases is told, and what is missing where cases are taken away."""
-from __future__ import annotations
 
 import inspect
 import subprocess
 import sys
-import tempfile
 import unittest
-from pathlib import Path
 from unittest import mock
 
 import suite as check
 from models import cases, drawn, mutations
+from unit.common import InFolder
 from vmatools import model
 from vmatools.comparing import conformance
 from vmatools.console import Failure
@@ -51,50 +49,40 @@ class Faults(unittest.TestCase):
         self.assertEqual(self.faults(a=SAYS + "0 maps\n" * 11), ["a: has 13 lines, and not 12 at most"])
 
 
-class Beside(unittest.TestCase):
+class Beside(InFolder):
     """What has to be beside a trace."""
 
     def setUp(self) -> None:
-        folder = tempfile.TemporaryDirectory()
-        self.addCleanup(folder.cleanup)
-        self.trace, self.program = Path(folder.name) / "threads/new.trace", Path(folder.name) / "program"
-        self.trace.parent.mkdir()
-        self.program.write_text("#!/bin/sh\nwc -l\n")
-        self.program.chmod(0o755)
+        super().setUp()
+        self.program = self.put_program("program", "wc -l\n")
 
     def test_the_output_and_each_legal_one(self) -> None:
-        self.trace.write_text(SAYS + "0 brk 0\n1 brk 0\n")
-        command = [sys.executable, str(TOP / "dev/suite-case"), "--program", str(self.program), str(self.trace)]
+        trace = self.put("threads/new.trace", SAYS + "0 brk 0\n1 brk 0\n")
+        command = [sys.executable, str(TOP / "dev/suite-case"), "--program", str(self.program), str(trace)]
         done = subprocess.run(command, capture_output=True, text=True)
         self.assertEqual((done.returncode, done.stderr), (0, ""))
-        self.assertEqual(self.trace.with_suffix(".out").read_text(), "4\n")
-        legal = self.trace.with_suffix(".legal").read_text().split(PART)
-        self.assertEqual(legal[0], serial_output(read_trace(self.trace.read_bytes())))
+        self.assertEqual(trace.with_suffix(".out").read_text(), "4\n")
+        legal = trace.with_suffix(".legal").read_text().split(PART)
+        self.assertEqual(legal[0], serial_output(read_trace(trace.read_bytes())))
         self.assertEqual([text.splitlines()[0] for text in legal], ["L3 t0 v1 = 0x0", "L4 t1 v1 = 0x0"])
         done = subprocess.run(command, capture_output=True, text=True)
         self.assertEqual((done.returncode, done.stdout), (0, ""))  # nothing is new
 
     def test_a_bad_trace_and_a_program_that_fails(self) -> None:
-        self.trace.write_text("vmatrace 1\n0 touch\n")
-        with self.assertRaisesRegex(Failure, "new.trace: line 2 cause 3 Word"):
-            cases.beside(str(self.program), self.trace)
-        self.trace.write_text(ONE)
-        self.program.write_text("#!/bin/sh\nexit 3\n")
-        with self.assertRaisesRegex(Failure, "new.trace: the program ends with status 3"):
-            cases.beside(str(self.program), self.trace)
+        for text, told in (("vmatrace 1\n0 touch\n", "line 2 cause 3 Word"), (ONE, "the program ends with status 3")):
+            trace, program = self.put("new.trace", text), self.put_program("program", "exit 3\n")
+            with self.assertRaisesRegex(Failure, f"new.trace: {told}"):
+                cases.beside(str(program), trace)
 
 
-class AsLinux(unittest.TestCase):
+class AsLinux(InFolder):
     OLD, NEW = (f"# {kernel_of(version).words()}\n" for version in ("6.1", "6.18"))
     HEAD = "# brk-limit of docs/KERNEL.md\n"
 
     def check(self, text: str) -> list[str]:
-        with tempfile.TemporaryDirectory() as name:
-            folder = Path(name) / "brk"
-            folder.mkdir()
-            (folder / "a.out").write_text("a\n")
-            (folder / "a.linux").write_text(text)
-            return [line.removeprefix(f"{folder}/") for line in check.check_linux(Path(name))]
+        self.put("brk/a.out", "a\n")
+        self.put("brk/a.linux", text)
+        return [line.removeprefix(f"{self.top}/brk/") for line in check.check_linux(self.top)]
 
     def test_a_row_that_is_not_there_and_an_answer_that_is_the_programs(self) -> None:
         self.assertEqual(self.check(self.HEAD + self.OLD + "b\n"), [])
@@ -155,7 +143,7 @@ class Missing(unittest.TestCase):
     def test_a_change_said_to_change_no_answer_that_a_random_trace_notices(self) -> None:
         where = "mprotect: `end * PAGE >= 2 ** 64` as `end * PAGE > 2 ** 64`"
         self.addCleanup(mutations.changes_alike.cache_clear)
-        with mock.patch.dict(mutations.ALIKE, {"": (where,)}, clear=True):
+        with mock.patch.object(mutations, "ALIKE", {where}):
             mutations.changes_alike.cache_clear()
             self.assertEqual(mutations.noticed_at_random(range(1, 41)), [f"{where}: a random trace notices it"])
 

@@ -1,5 +1,4 @@
 """The runner's scripts and answers, places, processes and batches, without a system that answers."""
-from __future__ import annotations
 
 import gzip
 import io
@@ -362,6 +361,32 @@ class Batches(unittest.TestCase):
         adapter.close()
         self.assertEqual(batch.fault_of("killed by signal 9"), "ends by signal SIGKILL")
         self.assertEqual(batch.Adapter(["sh", "-c", "echo half; exit 3"]).run(b"x\n", 30).fault, "ends with status 3")
+
+    def test_many_traces_are_answered_in_one_exchange(self) -> None:
+        """The adapter writes before it has read all, and both are more than pipes hold."""
+        script = 'while read a b c; do case $a in end) echo "end $b";; trace) ;; *) echo "$a $b";; esac; done'
+        adapter = batch.Adapter(["sh", "-c", script])
+        self.addCleanup(adapter.close)
+        texts = [b"%d %s\n" % (place, b"x" * 5000) for place in range(40)]
+        self.assertEqual([answer.output.encode() for answer in adapter.run_all(texts, 30)], texts)
+        self.assertEqual(adapter.run(b"0 y\n", 30).output, "0 y\n")
+
+    def test_what_ends_the_process_is_the_last_that_is_answered(self) -> None:
+        script = 'while read a b c; do case $a in end) echo "end $b";; bad) echo half; exit 3;; esac; done'
+        adapter = batch.Adapter(["sh", "-c", script])
+        self.addCleanup(adapter.close)
+        answers = adapter.run_all([b"good\n", b"bad\n", b"good\n"], 30)
+        self.assertEqual([(one.output, one.fault) for one in answers], [("", None), ("half\n", "ends with status 3")])
+        self.assertEqual(adapter.run_all([b"good\n"] * 2, 30), [batch.Answer("", None, "", True)] * 2)
+
+    def test_a_last_line_may_come_in_parts(self) -> None:
+        data = bytearray(b"\na\nend 7 4 not")
+        self.assertIsNone(batch.lines_of(data, 1, 1, b"end 7"))
+        since = len(data)
+        data += b" here\nb\n"
+        found = batch.lines_of(data, 1, since, b"end 7")
+        assert found
+        self.assertEqual(data[slice(*found)], b"end 7 4 not here\n")
 
     def test_one_that_does_not_speak_the_protocol(self) -> None:
         class Hasty(batch.Adapter):

@@ -1,5 +1,4 @@
 """Traces: read, written, and refused at the first bad line."""
-from __future__ import annotations
 
 import io
 import random

@@ -1,12 +1,8 @@
 """The wrong models by rule: each has a trace by which it isn't the model."""
 from __future__ import annotations
 
-import sys
 import unittest
-from pathlib import Path
 
-TOP = Path(__file__).resolve().parents[2]
-sys.path[:0] = [str(TOP / "tools"), str(TOP / "tests")]
 from models import wrong
 from vmatools.comparing import generator
 from vmatools.traces import read_trace
@@ -28,7 +24,3 @@ class WrongModels(unittest.TestCase):
         models = {one.name: one.space for one in wrong.shown()}
         for name in ("brk loses object above", "brk loses offset above"):
             self.assertTrue(any(wrong.differs(models[name], trace) for trace in drawn), name)
-
-
-if __name__ == "__main__":
-    unittest.main()

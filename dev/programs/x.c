@@ -1,0 +1,2 @@
+#include <stdio.h>
+int main(void) { puts("heard"); return 0; }
