@@ -328,9 +328,11 @@ while head := sys.stdin.buffer.read(8):
 
     def test_whole_lines(self) -> None:
         self.assertEqual(running.whole_lines(b"a\nb"), ["a"])
-        self.assertTrue(running.is_complete(bytearray(b"x\ndone 0\n"), b"done "))
-        self.assertFalse(running.is_complete(bytearray(b"done 0\nx\n"), b"done "))
-        self.assertFalse(running.is_complete(bytearray(b"done 0"), b"done "))
+        self.assertTrue(running.is_complete(bytearray(b"x\ndone 0\n"), b"done"))
+        self.assertFalse(running.is_complete(bytearray(b"done 0\nx\n"), b"done"))
+        self.assertFalse(running.is_complete(bytearray(b"done 0"), b"done"))
+        self.assertTrue(running.is_complete(bytearray(b"ready\r\n"), b"ready"))
+        self.assertFalse(running.is_complete(bytearray(b"readying\n"), b"ready"))
 
 
 class Batches(unittest.TestCase):
@@ -387,6 +389,18 @@ class Batches(unittest.TestCase):
         found = batch.lines_of(data, 1, since, b"end 7")
         assert found
         self.assertEqual(data[slice(*found)], b"end 7 4 not here\n")
+
+    def test_a_last_line_has_all_of_its_number(self) -> None:
+        for data in bytearray(b"\nend 12\n"), bytearray(b"\nend 12\nend 1x\nend 1"):
+            self.assertIsNone(batch.lines_of(data, 1, 1, b"end 1"))
+            since = len(data)
+            data += b"\nend 1\nend 1\n"
+            found = batch.lines_of(data, 1, since, b"end 1")
+            self.assertEqual(found and (data[found[0] : found[1]], data[: found[0]].count(b"end 1\n")), (b"end 1\n", 0))
+        script = "while read a b c; do [ $a = end ] && echo \"end ${b}2\" && echo \"end $b\"; done"
+        adapter = batch.Adapter(["sh", "-c", script])
+        self.addCleanup(adapter.close)
+        self.assertEqual([one.output for one in adapter.run_all([b"a\n"] * 2, 30)], ["end 12\n", "end 22\n"])
 
     def test_one_that_does_not_speak_the_protocol(self) -> None:
         class Hasty(batch.Adapter):

@@ -9,7 +9,7 @@ from ..systems.batch import Adapter, Answer, text_of
 NEW = b"new\n"
 # Behind each trace, in an address space of its own: the answer to `query` is that of no line of a trace.
 MARK = b"vmatrace 1\nquery 0\nnew\n"
-MARKED = b"none\nmaps 0\n"
+MARKED = b"none\nmaps 0"
 # The lines that a session has and a trace has not. `serial` refuses them.
 OWN_LINE = re.compile(rb"^[ \t]*(new[ \t]*$|query[ \t])", re.MULTILINE)
 RESULT = re.compile(r"L\d+ t(\d+) v(\d+) = ")

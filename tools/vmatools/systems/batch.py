@@ -70,7 +70,7 @@ class Adapter:
         return b"trace %d %g\n%send %d\n" % (number, seconds, text, number)
 
     def mark(self, number: int) -> bytes:
-        """How the last line of an answer begins."""
+        """The words with which the last line of an answer begins."""
         return b"end %d" % number
 
     def answered(self, data: bytes, last: bytes) -> Answer:
@@ -160,10 +160,12 @@ def written(descriptor: int, data: memoryview) -> int:
 
 
 def lines_of(data: bytearray, at: int, since: int, mark: bytes) -> tuple[int, int] | None:
-    """Where the last line of an answer begins and ends, which begins with a mark, in what is new `since` then."""
+    """Where the last line of an answer begins and ends: a mark, alone or with more words, in what is new `since` then."""
     begin = min(data.rfind(b"\n", 0, since), since - len(mark) - 1)
     last = data.find(b"\n" + mark, max(begin, at - 1)) + 1
-    newline = data.find(b"\n", last + len(mark) - 1) if last else -1
+    while last and data[last + len(mark) : last + len(mark) + 1] not in (b"\n", b" "):
+        last = data.find(b"\n" + mark, last) + 1
+    newline = data.find(b"\n", last + len(mark)) if last else -1
     return None if newline < 0 else (last, newline + 1)
 
 

@@ -200,8 +200,8 @@ class Served:
             raise Refused(5, f"the system does not begin ({ending}): {said[-600:]}")
         return self.port
 
-    def read_answers(self, port: Port, seconds: float, last: str = "done ") -> tuple[list[str], str | None]:
-        """The lines up to one that begins so, which is among them; and how the process ended, if it did or hangs."""
+    def read_answers(self, port: Port, seconds: float, last: str = "done") -> tuple[list[str], str | None]:
+        """The lines up to one with this first word, which is among them; and how the process ended, if it did or hangs."""
         data, end, ending = bytearray(), time.monotonic() + seconds, None
         while not is_complete(data, last.encode()) and ending is None:
             ready, _, _ = select.select([port.output], [], [], max(end - time.monotonic(), 0))
@@ -223,8 +223,9 @@ class Served:
 
 
 def is_complete(data: bytearray, mark: bytes) -> bool:
-    """Whether the last line is whole and begins with a mark."""
-    return data.endswith(b"\n") and data.startswith(mark, data.rfind(b"\n", 0, len(data) - 1) + 1)
+    """Whether the last line is whole, and a mark is its first word."""
+    begin = data.rfind(b"\n", 0, len(data) - 1) + 1
+    return data.endswith(b"\n") and data[begin : begin + len(mark) + 1].rstrip() == mark
 
 
 def read_some(descriptor: int) -> bytes:
