@@ -159,6 +159,12 @@ class Systems(unittest.TestCase):
             self.assertEqual(conform.searched_place(replace(CASE, right=(right,))), line)
 
 
+def conform_options(*words: str) -> argparse.Namespace:
+    parser = argparse.ArgumentParser()
+    conform.add_arguments(parser)
+    return parser.parse_args(words)
+
+
 class Reports(InFolder):
     """What a user reads of the cases that aren't as they should be."""
 
@@ -187,6 +193,30 @@ class Reports(InFolder):
         done = self.conform("cat > /dev/null")
         self.assertEqual((done.returncode, done.stdout), (1, ""))
         self.assertRegex(done.stderr, "^vma conform: COMMAND writes nothing, not even the list at the end: .*\n$")
+
+    def test_what_ends_a_run_is_the_error_of_each_case_that_was_not_run(self) -> None:
+        refuses = "while read w n s; do [ $w = end ] && echo end $n 5 no such system; done"
+        for words, status, why in (
+            (["--", "sh", "-c", "cat > /dev/null"], 1, "COMMAND writes nothing"),
+            (["--batch", "--", "sh", "-c", "exit 3"], 2, "the adapter ends with status 3"),
+            (["--batch", "--", "sh", "-c", refuses], 2, "no such system"),
+        ):
+            path = self.put("report.xml", "an older one")
+            only = ("--only", "munmap/again", "--only", "munmap/whole")
+            done = vma("conform", *only, "--junit", str(path), "--tap", f"{self.top}/tap", *words)
+            self.assertEqual((done.returncode, done.stdout), (status, ""))
+            self.assertIn(why, done.stderr)
+            root = ElementTree.fromstring(path.read_text(encoding="utf-8").split("\n", 1)[1])
+            self.assertEqual([root.get(name) for name in ("tests", "errors", "failures")], ["2", "2", "0"])
+            errors = {case.get("name"): case[0].get("message") or "" for case in root}
+            self.assertEqual(sorted(errors), ["again", "whole"])  # type: ignore[type-var]
+            self.assertTrue(all(message.startswith(f"not run: {why}") for message in errors.values()), errors)
+            self.assertEqual((self.top / "tap").read_text(encoding="utf-8").count("\nnot ok "), 2)
+
+    def test_a_report_that_is_not_written_is_not_there(self) -> None:
+        with mock.patch.object(conform, "run_all", side_effect=ValueError), self.assertRaises(ValueError):
+            conform.run(conform_options("--junit", f"{self.top}/report.xml", "--", "true"))
+        self.assertEqual(list(self.top.iterdir()), [])
 
     def test_what_counts_most_stands_first(self) -> None:
         def result(output: str, fault: str | None = None) -> conformance.Result:

@@ -12,8 +12,9 @@ system can't run it.
     tools/vma conform --system qemu-x86_64
     tools/vma conform --live
 
-Exit status: 0 if all cases pass, or are left out, 1 if one doesn't, 2 on wrong use, if the suite or COMMAND can't be read or
-run, or if all cases are left out.
+Exit status: 0 if all cases pass, or are left out, 1 if one doesn't or if COMMAND writes nothing, 2 on wrong use, if the suite or
+COMMAND can't be read or run, or if all cases are left out. Where the run ends early, a file of --tap, --json or --junit has each
+case that wasn't run as an error.
 """
 
 import argparse
@@ -27,7 +28,6 @@ from collections.abc import Callable, Iterator, Sequence
 from concurrent.futures import ThreadPoolExecutor
 from dataclasses import replace
 from pathlib import Path
-from typing import TextIO
 
 from .. import console, oracles
 from ..comparing import conformance
@@ -229,14 +229,20 @@ def report(results: Sequence[Result], given: argparse.Namespace) -> None:
         console.say(f"{console.counted(len(hung), 'case')} hung, and {why}")
 
 
-def open_forms(options: argparse.Namespace, stack: contextlib.ExitStack) -> dict[str, TextIO]:
-    """The files of the forms that are asked for, opened before the cases run; `-` is standard output."""
+def open_forms(options: argparse.Namespace, stack: contextlib.ExitStack) -> dict[str, console.NewFile | None]:
+    """The files of the forms that are asked for, opened before the cases run; none for standard output."""
     places = {form: getattr(options, form) for form in FORMS}
     return {
-        form: sys.stdout if place == "-" else stack.enter_context(console.open_file(place))
+        form: None if place == "-" else stack.enter_context(contextlib.closing(console.NewFile(place)))
         for form, place in places.items()
         if place
     }
+
+
+def write_form(form: str, file: console.NewFile | None, results: Sequence[Result]) -> None:
+    (file.stream if file else sys.stdout).writelines(f"{line}\n" for line in FORMS[form](results))
+    if file:
+        file.take_place()
 
 
 def oracle_for(options: argparse.Namespace) -> oracles.Oracle:
@@ -264,18 +270,27 @@ def run(options: argparse.Namespace) -> int:
     take_own_kernel(options)
     with contextlib.ExitStack() as stack:
         forms = open_forms(options, stack)
-        results, is_interrupted = list[Result](), False
-        try:
-            for result in each_result(cases, options):
-                results.append(result)
-        except KeyboardInterrupt:
-            is_interrupted = True
+        results, failure = run_all(cases, options)
+        not_run = [conformance.not_run(case, str(failure)) for case in cases[len(results) :]]
         for form, file in forms.items():
-            file.writelines(f"{line}\n" for line in FORMS[form](results))
-    if sys.stdout not in forms.values():
+            write_form(form, file, [*results, *not_run])
+    if None not in forms.values() and (failure is None or failure.status == console.INTERRUPTED):
         report(results, given)
-    if is_interrupted:
-        raise console.Failure(f"interrupted: {len(results)} of {len(cases)} cases", console.INTERRUPTED)
+    if failure:
+        raise failure
     if all(result.verdict is Verdict.LEFT_OUT for result in results):
         raise console.Failure("the system ran none of the cases")
     return 0 if all(result.verdict in (Verdict.PASSED, Verdict.LEFT_OUT) for result in results) else 1
+
+
+def run_all(cases: Sequence[Case], options: argparse.Namespace) -> tuple[list[Result], console.Failure | None]:
+    """What came of the cases, and why not of all of them."""
+    results = list[Result]()
+    try:
+        for result in each_result(cases, options):
+            results.append(result)
+    except KeyboardInterrupt:
+        return results, console.Failure(f"interrupted: {len(results)} of {len(cases)} cases", console.INTERRUPTED)
+    except console.Failure as failure:
+        return results, failure
+    return results, None

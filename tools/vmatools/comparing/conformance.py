@@ -68,6 +68,7 @@ class Result:
     wanted: str = ""
     message: str = ""
     difference: Difference | None = None
+    was_run: bool = True
 
     @property
     def rank(self) -> int:
@@ -167,6 +168,11 @@ def judged(case: Case, ran: Ran) -> Result:
     return Result(case, Verdict.FAILED, *first_wrong(ran.output, right), difference=difference)
 
 
+def not_run(case: Case, why: str) -> Result:
+    """What a report says of a case that wasn't run, since the run ended before it."""
+    return Result(case, Verdict.CRASHED, message=f"not run: {why}", was_run=False)
+
+
 def table(results: Iterable[Result]) -> list[str]:
     """A line a group: how many cases, and how many of them passed, failed, crashed, hung and were left out."""
     groups: dict[str, list[Verdict]] = {}
@@ -242,5 +248,6 @@ def as_junit(results: Sequence[Result]) -> Iterator[str]:
         elif result.verdict is Verdict.LEFT_OUT:
             suite.add(result.case.group, result.case.name, "skipped", result.why)
         else:
-            suite.add(result.case.group, result.case.name, "failure", result.why, "\n".join(described(result)))
+            came = "failure" if result.was_run else "error"
+            suite.add(result.case.group, result.case.name, came, result.why, "\n".join(described(result)))
     yield suite.text().rstrip("\n")
