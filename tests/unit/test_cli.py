@@ -150,6 +150,17 @@ class Modes(InFolder):
         self.assertEqual(done.returncode, console.NOT_WRITTEN)
         self.assertIn("vma serial: standard output: not all of it could be written\n", done.stderr)
 
+    def test_a_pipe_that_nobody_reads(self) -> None:
+        read, write = os.pipe()
+        os.close(read)
+        self.addCleanup(os.close, write)
+        for words in (("serial", TRACE), ("generate", "9", "1")):
+            done = run(*words, env=self.bare, capture_output=False, stdout=write, stderr=subprocess.PIPE)
+            self.assertEqual(done.returncode, console.NOT_READ_ON)
+            self.assertIn(f"vma {words[0]}: standard output: nobody reads on\n", done.stderr)
+        done = run("live", TRACE, env=self.bare, capture_output=False, stdout=write, stderr=subprocess.PIPE)
+        self.assertEqual((done.returncode, done.stderr.splitlines()[-1]), (5, "write fault"))  # as diltzekun-live itself
+
     def test_the_version_tells_which_program_and_whether_it_is_proved(self) -> None:
         first, main, live = self.vma("--version")[1].splitlines()
         self.assertEqual(first, f"diltzekun {VERSION}")

@@ -3,6 +3,7 @@
 import argparse
 import os
 import re
+import select
 import shutil
 import signal
 import subprocess
@@ -80,13 +81,22 @@ def check_status(status: int, message: str, why: Callable[[], None]) -> None:
         return
     if status == 3:
         why()
+    not_read_on = console.Failure("standard output: nobody reads on", console.NOT_READ_ON)
+    not_written = console.Failure("standard output: not all of it could be written", console.NOT_WRITTEN)
     ends = {
-        -signal.SIGPIPE: console.Failure("standard output: nobody reads on", console.NOT_READ_ON),
+        -signal.SIGPIPE: not_read_on,
         -signal.SIGINT: console.Failure("interrupted", console.INTERRUPTED),
-        5: console.Failure("standard output: not all of it could be written", console.NOT_WRITTEN),
+        5: not_read_on if is_other_end_gone(1) else not_written,
         6: console.Failure("out of memory: what was written is a beginning of the output", console.FAULT),
     }
     raise ends.get(status) or console.Failure(f"the program ends with status {status}: {console.printable(message.strip())}")
+
+
+def is_other_end_gone(descriptor: int) -> bool:
+    """Whether it is a pipe, a socket or a terminal without its other end, which a poll says unasked."""
+    poll = select.poll()
+    poll.register(descriptor, 0)
+    return bool(poll.poll(0))
 
 
 # Inputs
@@ -363,6 +373,6 @@ MODES = {
         "With --as Linux of a version answers, and a line of which its model says nothing by `trace line N not modelled: why`.",
         add_live,
         run_live,
-        "\nExit status: that of diltzekun-live, 0 where all was answered.\n",
+        "\nExit status: that of diltzekun-live: 0 if all was answered, 5 if a write failed or nobody reads on.\n",
     ),
 }
