@@ -7,12 +7,13 @@ import sys
 import time
 from collections.abc import Callable
 from typing import Any
+from unittest import mock
 
 from unit.common import VMA, InFolder
 from vmatools.running import children, keeper
 from vmatools.running.program import TOP
 
-SECONDS = 60  # for what is done at once on a machine that is not busy
+SECONDS = 30  # for what is done at once on a machine that is not busy
 # An adapter that hangs, with a child in its group and one in a session of its own. Each writes its number.
 HANGS = """
 {says}
@@ -68,13 +69,24 @@ class Children(InFolder):
     def ended_by(self, number: int, command: list[str], **more: Any) -> tuple[int, str, str]:
         """Ends a tool in the middle of a case that hangs; its status, and what it wrote, where all it started is gone."""
         with subprocess.Popen(command, stdout=subprocess.PIPE, stderr=subprocess.PIPE, text=True, **more) as tool:
-            self.assertTrue(waited(lambda: len(self.started()) >= 3), "the adapter doesn't begin")
-            begin = time.monotonic()
-            tool.send_signal(number)
-            output, message = tool.communicate(timeout=SECONDS)
-            self.assertLess(time.monotonic() - begin, SECONDS / 2)
+            try:
+                self.assertTrue(waited(lambda: len(self.started()) >= 3), f"the adapter hasn't begun in {SECONDS} seconds")
+                tool.send_signal(number)
+                output, message = tool.communicate(timeout=SECONDS)
+            except subprocess.TimeoutExpired:
+                self.fail(f"the tool hasn't ended {SECONDS} seconds after {signal.Signals(number).name}")
+            finally:
+                tool.kill()
         self.assertTrue(waited(lambda: not self.left()), f"{self.left()} of {self.started()} still run")
         return tool.returncode, output, message
+
+    def test_what_is_waited_for_is_named_and_not_for_long(self) -> None:
+        for started, told in (("", "the adapter hasn't begun in 0.5"), ("1\n2\n3\n", "hasn't ended 0.5 .* SIGURG")):
+            begin = time.monotonic()
+            self.pids.write_text(started)
+            with mock.patch.dict(globals(), SECONDS=0.5), self.assertRaisesRegex(AssertionError, told):
+                self.ended_by(signal.SIGURG, ["sleep", "40"])  # it does nothing
+            self.assertLess(time.monotonic() - begin, SECONDS)
 
     def test_conform_that_is_ended(self) -> None:
         for batch in list[str](), ["--batch"]:
