@@ -76,15 +76,19 @@ static bool is_mapped(const struct space *s, uint64_t start, uint64_t end)
     return false;
 }
 
-/* At the hint, or as high as there is room; 0 where there is none. */
+/* At the hint, or as high as there is room below the top, or as low as there is from a third of memory up; 0 where there is none. */
 static uint64_t place(const struct space *s, uint64_t hint, uint64_t size)
 {
-    uint64_t end = s->settings.top;
+    uint64_t end = s->settings.top, start = rounded(s->settings.end / 3);
     if (hint && hint < s->settings.min) hint = s->settings.min;
     if (hint && hint < s->settings.end && size <= s->settings.end - hint && !is_mapped(s, hint, hint + size)) return hint;
     for (size_t i = s->count; i-- > 0 && !(end >= s->list[i].end && end - s->list[i].end >= size);)
         if (s->list[i].start < end) end = s->list[i].start;
-    return end >= size && end - size >= s->settings.min ? end - size : 0;
+    if (end >= size && end - size >= s->settings.min) return end - size;
+    if (start < s->settings.min) start = s->settings.min;
+    for (size_t i = 0; i < s->count && !(s->list[i].start >= start && s->list[i].start - start >= size); i++)
+        if (s->list[i].end > start) start = s->list[i].end;
+    return size <= s->settings.end - start ? start : 0;
 }
 
 static int64_t space_mmap(void *space, uint64_t address, uint64_t length, int prot, uint64_t flags, const struct vma_file *file, uint64_t offset)

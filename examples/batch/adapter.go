@@ -54,7 +54,7 @@ func (s *areaList) isMapped(start, end uint64) bool {
 	return false
 }
 
-// At the hint, or as high as there is room; 0 where there is none.
+// At the hint, or as high as there is room below the top, or as low as there is from a third of memory up; 0 where there is none.
 func (s *areaList) place(hint, size uint64) uint64 {
 	if hint != 0 {
 		hint = greatest(hint, s.settings.min)
@@ -66,10 +66,17 @@ func (s *areaList) place(hint, size uint64) uint64 {
 	for i := len(s.list) - 1; i >= 0 && !(end >= s.list[i].end && end-s.list[i].end >= size); i-- {
 		end = least(end, s.list[i].start)
 	}
-	if end < size || end-size < s.settings.min {
+	if end >= size && end-size >= s.settings.min {
+		return end - size
+	}
+	start := greatest(s.settings.min, rounded(s.settings.end/3))
+	for i := 0; i < len(s.list) && !(s.list[i].start >= start && s.list[i].start-start >= size); i++ {
+		start = greatest(start, s.list[i].end)
+	}
+	if size > s.settings.end-start {
 		return 0
 	}
-	return end - size
+	return start
 }
 
 // Unmaps a range, puts VMAs there, and joins neighbours that look alike.

@@ -95,7 +95,7 @@ class Space:
         return any(area.start < end and area.end > start for area in self.list)
 
     def place(self, hint: int, size: int) -> int | None:
-        """At the hint, or as high as there is room."""
+        """At the hint, or as high as there is room below the top, or as low as there is from a third of memory up."""
         hint = max(hint, self.settings.min) if hint else 0
         if hint and hint + size <= self.settings.end and not self.is_mapped(hint, hint + size):
             return hint
@@ -104,7 +104,14 @@ class Space:
             if end - area.end >= size:
                 break
             end = min(end, area.start)
-        return end - size if end - size >= self.settings.min else None
+        if end - size >= self.settings.min:
+            return end - size
+        start = max(self.settings.min, -(-self.settings.end // 3 // PAGE) * PAGE)
+        for area in self.list:
+            if area.start - start >= size:
+                break
+            start = max(start, area.end)
+        return start if start + size <= self.settings.end else None
 
     def replace(self, start: int, end: int, new: Area | None = None) -> None:
         """Unmaps a range, puts a VMA there, and joins neighbours that look alike."""

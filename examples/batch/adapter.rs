@@ -34,7 +34,7 @@ impl Areas {
         self.list.iter().any(|area| area.start < end && area.end > start)
     }
 
-    /// At the hint, or as high as there is room.
+    /// At the hint, or as high as there is room below the top, or as low as there is from a third of memory up.
     fn place(&self, hint: u64, size: u64) -> Option<u64> {
         let hint = if hint == 0 { 0 } else { hint.max(self.min) };
         if hint != 0 && hint.checked_add(size).is_some_and(|end| end <= self.end && !self.is_mapped(hint, end)) {
@@ -47,7 +47,17 @@ impl Areas {
             }
             end = end.min(area.start);
         }
-        end.checked_sub(size).filter(|&start| start >= self.min)
+        if let Some(start) = end.checked_sub(size).filter(|&start| start >= self.min) {
+            return Some(start);
+        }
+        let mut start = (self.end / 3).next_multiple_of(PAGE).max(self.min);
+        for area in &self.list {
+            if area.start >= start && area.start - start >= size {
+                break;
+            }
+            start = start.max(area.end);
+        }
+        Some(start).filter(|start| size <= self.end - start)
     }
 
     /// Unmaps a range, puts a VMA there, and joins neighbours that look alike.

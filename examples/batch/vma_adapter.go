@@ -370,12 +370,12 @@ func serve(lacks string, open func(settings) space) {
 	input := bufio.NewScanner(os.Stdin)
 	input.Buffer(make([]byte, 8192), 8192)
 	output := bufio.NewWriter(os.Stdout)
-	t, isBatch, hasTold := begin(open), false, false
+	t, last, hasTold := begin(open), "", false // last ends the trace, of many
 	for input.Scan() {
 		switch line := input.Text(); {
 		case strings.HasPrefix(line, "trace "): // trace N SECONDS: the trace begins in the next line
-			t, isBatch = begin(open), true
-		case isBatch && strings.HasPrefix(line, "end "): // end N: the output is wanted, and the same line behind it
+			t, last = begin(open), "end "+strings.Fields(line)[1]
+		case last != "" && line == last: // end N: the output is wanted, and the same line behind it
 			if !hasTold {
 				output.WriteString(has(t.parent().space, lacks))
 				hasTold = true
@@ -387,7 +387,7 @@ func serve(lacks string, open func(settings) space) {
 			t.read(line)
 		}
 	}
-	if !isBatch {
+	if last == "" {
 		t.write(output)
 		output.Flush()
 	}

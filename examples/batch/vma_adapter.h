@@ -331,18 +331,18 @@ static void vma_tell(const struct vma_system *y)
 static int vma_serve(const struct vma_system *system)
 {
     static struct vma_state s;
-    static char line[8192];
+    static char line[8192], last[64]; /* the line that ends the trace, of many */
     unsigned number = 0;
-    bool is_batch = false, has_told = false;
+    bool has_told = false;
     s.system = system;
     vma_begin(&s);
     while (fgets(line, sizeof line, stdin)) {
         line[strcspn(line, "\n")] = 0;
         if (!strncmp(line, "trace ", 6)) { /* trace N SECONDS: the trace begins in the next line */
             vma_begin(&s);
-            is_batch = true;
+            snprintf(last, sizeof last, "end %.*s", (int)strcspn(line + 6, " "), line + 6);
             number = 0;
-        } else if (is_batch && !strncmp(line, "end ", 4)) { /* end N: the output is wanted, and the same line behind it */
+        } else if (*last && !strcmp(line, last)) { /* end N: the output is wanted, and the same line behind it */
             if (!has_told) vma_tell(system);
             has_told = true;
             vma_end(&s);
@@ -352,7 +352,7 @@ static int vma_serve(const struct vma_system *system)
             vma_line(&s, ++number, line);
         }
     }
-    if (!is_batch) vma_end(&s);
+    if (!*last) vma_end(&s);
     return fflush(stdout) || ferror(stdout) ? 5 : 0;
 }
 

@@ -258,12 +258,12 @@ fn flags(text: &str) -> u64 {
 /// Answers the trace on standard input, or as many as come there, until it ends.
 pub fn serve<S: Space>() -> io::Result<()> {
     let mut output = BufWriter::new(io::stdout().lock());
-    let (mut trace, mut is_batch, mut has_told) = (Trace::<S>::new(), false, false);
+    let (mut trace, mut last, mut has_told) = (Trace::<S>::new(), None, false); // `last` ends the trace, of many
     for line in io::stdin().lock().lines() {
         let line = line?;
-        if line.starts_with("trace ") {
-            (trace, is_batch) = (Trace::new(), true);
-        } else if is_batch && line.starts_with("end ") {
+        if let Some(words) = line.strip_prefix("trace ") {
+            (trace, last) = (Trace::new(), words.split(' ').next().map(|number| format!("end {number}")));
+        } else if last.as_ref() == Some(&line) {
             if !std::mem::replace(&mut has_told, true) {
                 writeln!(output, "has {}", S::HAS)?;
             }
@@ -274,7 +274,7 @@ pub fn serve<S: Space>() -> io::Result<()> {
             trace.read(&line);
         }
     }
-    if !is_batch {
+    if last.is_none() {
         trace.write(&mut output)?;
     }
     output.flush()

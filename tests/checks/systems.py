@@ -19,6 +19,7 @@ from checking import TOOL, fail, passed, skipped
 
 from vmatools import console
 from vmatools.comparing import conformance, generator
+from vmatools.profile.serial import serial_output
 from vmatools.running.program import TOP
 from vmatools.systems import batch, building, known, measuring, seen
 from vmatools.systems.places import Refused
@@ -28,6 +29,16 @@ TRACES = 300
 WANTED = "L3 t0 v1 = 0\nL6 t0 v1 = maps 0\nL4 t3 v1 = SIGSEGV SEGV_MAPERR\nmaps 0\n"
 TRACE = b"vmatrace 1\n# a comment\n0 munmap 0x10000 4096\n3 fault 0x10000 r\n\n0 maps\n"
 ADAPTERS = TOP / "examples/batch"
+# Where the lowest address, the top of the first search, the floor of the second and the end of memory meet: a lowest address,
+# and the lengths of mappings whose place is searched.
+BORDERS = {
+    "0x7ffff7fff000": ["4096", "0x7fff000", "4096", "4096"],
+    "0x7ffff7ffe000": ["8192", "4096", "4096", "0x7ffe000", "4096"],
+    "0x7fffffffe000": ["8192", "4096", "1"],
+    "0x7ffffffff000": ["1"],
+    "0x10000": ["0x7ffff7fef000", "0x7fff000", "4096", "1"],
+    "0x2aaaaaaac000": ["0x55554d554000", "0x55554d553000", "0x8000000", "4096"],
+}
 
 
 def adapters(folder: Path) -> Iterator[tuple[str, list[str]]]:
@@ -72,6 +83,7 @@ def check_batch() -> None:
                 if answer.output != WANTED or answer.fault:
                     fail(f"the adapter in {language}", f"answers {answer}")
                 check_cases(language, adapter)
+                check_borders(language, adapter)
                 begin = time.monotonic()
                 for number in range(TRACES):
                     if adapter.run(texts[number % len(texts)], 30).fault:
@@ -91,6 +103,20 @@ def check_cases(language: str, adapter: batch.Adapter) -> None:
         if answer.output not in case.right:
             fail(f"the adapter in {language}", f"answers {case.where} by {answer}")
     passed(f"the adapter in {language}, on {len(cases)} cases")
+
+
+def check_borders(language: str, adapter: batch.Adapter) -> None:
+    """An adapter finds each place that there is; and a line that is like the last one of another trace ends none."""
+    for lowest, lengths in BORDERS.items():
+        lines = [f"0 mmap 0 {length} PROT_READ MAP_PRIVATE|MAP_ANONYMOUS -1 0" for length in lengths]
+        text = "\n".join(["vmatrace 1", f"min {lowest}", *lines, ""]).encode()
+        answer, right = adapter.run(text, 30), serial_output(read_trace(text))
+        if answer.output != right:
+            fail(f"the adapter in {language}", f"answers {answer} from {lowest} on, and not {right}")
+    answer = adapter.run(b"vmatrace 1\nend 0\n", 30)
+    if answer.output not in ("", "maps 0\n") or adapter.run(TRACE, 30).output != WANTED:
+        fail(f"the adapter in {language}", f"answers a trace with a line `end 0` by {answer}, or the next one wrongly")
+    passed(f"the adapter in {language}, at {len(BORDERS)} borders")
 
 
 def check_ends() -> None:

@@ -161,6 +161,11 @@ class Example(InFolder):
         done = subprocess.run(EXAMPLE, input=text, capture_output=True, text=True)
         self.assertEqual((done.returncode, done.stdout), (0, (TOP / "examples/readme.out").read_text()))
 
+    def test_the_second_search_goes_up_from_the_lowest_address(self) -> None:
+        lines = "0 mmap 0 4096 PROT_READ MAP_PRIVATE|MAP_ANONYMOUS -1 0\n" * 2
+        done = subprocess.run(EXAMPLE, input=f"vmatrace 1\nmin 0x7fffffffe000\n{lines}", capture_output=True, text=True)
+        self.assertEqual(done.stdout.splitlines()[:2], ["L3 t0 v1 = 0x7fffffffe000", "L4 t0 v2 = -1 ENOMEM"])
+
     def test_a_new_adapter_runs_where_it_is_written(self) -> None:
         for language, names in (("python", ["adapter.py"]), ("c", ["adapter.c", "vma_adapter.h"])):
             done = vma("new-adapter", language, f"{self.top}/{language}")
