@@ -177,6 +177,15 @@ class Example(InFolder):
         own = subprocess.run([self.top / "python/adapter.py"], input="vmatrace 1\n0 maps\n", capture_output=True, text=True)
         self.assertEqual(own.stdout, "L2 t0 v0 = maps 0\nmaps 0\n")
 
+    def test_a_new_adapter_takes_the_tools_that_are_there(self) -> None:
+        for name in ("__init__", "adapter"):
+            self.put(f"tools/vmatools/{name}.py", "Area = File = Settings = object\nserve = lambda kind: print(kind.lacks)\n")
+        self.assertEqual(vma("new-adapter", "python", f"{self.top}/made").returncode, 0)
+        os.rename(self.top / "made", self.top / "moved")
+        command, environment = [self.top / "moved/adapter.py"], {**os.environ, "PYTHONPATH": f"{self.top}/tools"}
+        done = subprocess.run(command, capture_output=True, text=True, env=environment)
+        self.assertEqual((done.returncode, done.stdout[:8], done.stderr), (0, "('limit'", ""))
+
     def test_its_next_commands_are_for_a_shell_wherever_the_tools_are(self) -> None:
         tool = self.put("a ü/tools/vma", "")
         with mock.patch.object(program, "TOP", self.top / "a ü"):

@@ -1,7 +1,8 @@
 """Writes an adapter that runs: a small address space in Python, C, Rust or Go, in whose place your system comes.
 
 FOLDER gets the adapter and, but in Python, the file that reads traces and writes the results, which depends on nothing. The
-adapter is one of examples/batch, a sorted list of VMAs, and passes all cases of the suite that it has the calls for.
+adapter is one of examples/batch, a sorted list of VMAs, and passes all cases of the suite that it has the calls for. The one in
+Python imports vmatools: one on PYTHONPATH or an installed one, else that of the tools which wrote it.
 
 Exit status: 0 if the files are written, 2 on wrong use, or if one of them is there already.
 """
@@ -18,7 +19,13 @@ from ..running import program
 
 SUMMARY = "write an adapter that runs, in whose place your system comes"
 EXAMPLES = program.TOP / "examples/batch"
-OWN_PLACE = 'str(Path(__file__).resolve().parents[2] / "tools")'  # where the example in Python finds the tools
+OWN_PLACE = """from pathlib import Path
+
+sys.path.insert(0, str(Path(__file__).resolve().parents[2] / "tools"))  # where vmatools is, if it isn't installed
+"""  # where the example in Python finds the tools
+PLACE = """
+sys.path.append({!r})  # where vmatools was when this was written; one on PYTHONPATH, or installed, comes before it
+"""  # and where the written one does: it runs at once, and wherever it goes
 
 
 @dataclass(frozen=True)
@@ -48,11 +55,11 @@ def run(options: argparse.Namespace) -> int:
     for name in language.files:
         if os.path.lexists(options.folder / name):
             raise console.Failure(f"{options.folder / name}: it is there already")
-    tools = str(Path(program.__file__).resolve().parents[2])
+    place = PLACE.format(str(Path(program.__file__).resolve().parents[2]))
     with ExitStack() as stack:
         files = [stack.enter_context(closing(console.NewFile(options.folder / name))) for name in language.files]
         for file, name in zip(files, language.files):
-            file.stream.write((EXAMPLES / name).read_text(encoding="utf-8").replace(OWN_PLACE, repr(tools)))
+            file.stream.write((EXAMPLES / name).read_text(encoding="utf-8").replace(OWN_PLACE, place))
             file.stream.flush()
         for file in files:  # all are whole, or none is there
             file.take_place()
