@@ -1,19 +1,23 @@
 """A known system in a comparison: its words, how traces are fitted, and what of it is compared."""
 
 import argparse
+import re
+import sys
 import time
 import unittest
 from typing import Optional
 from unittest import mock
 
+from unit.common import InFolder, vma
 from vmatools import console, oracles
 from vmatools.commands import compare
-from vmatools.comparing import comparison, windows
+from vmatools.comparing import comparison, generator, windows
 from vmatools.linux.kernel import running_version
 from vmatools.outputs import Difference
 from vmatools.running import program
-from vmatools.running.program import Ran
+from vmatools.running.program import TOP, Ran
 from vmatools.systems import beside, machines, words
+from vmatools.systems.capabilities import Capabilities
 from vmatools.systems.places import Window
 from vmatools.traces import Trace, read_trace
 
@@ -107,7 +111,34 @@ class Answering(comparison.Sides):
         return Ran(self.output, self.fault if has_seal or not self.output else None, "")
 
 
-class Fits(unittest.TestCase):
+class Fits(InFolder):
+    def test_a_window_and_what_a_system_has_hold_both(self) -> None:
+        has = Capabilities(frozenset("mmap munmap mremap fault maps min -MAP_SHARED -MAP_FIXED".split()))
+        window = windows.Fit(Window(0x10000000, 0x20000000))
+        both = windows.Both(window, has)
+        for number in range(9):
+            trace = both.fitted(generator.Generator("mix", f"both {number}", 30).draw())
+            self.assertTrue(trace.lines and window.keeps(trace) and has.keeps(trace) and both.keeps(trace))
+        inside = MAP.replace("0x10000", "0x10000000")
+        self.assertFalse(both.keeps(trace_of(inside)))
+        self.assertFalse(windows.Both(window, Capabilities(frozenset(["mmap"]))).keeps(trace_of(MAP)))
+
+    def test_a_run_keeps_to_both(self) -> None:
+        sent = self.top / "sent"
+        adapter = self.put_program("adapter", f"tee -a {sent} | {sys.executable} {TOP}/examples/batch/adapter.py\n")
+        for batch in (["--batch"], list[str]()):
+            sent.write_text("")
+            words = ["--window", "0x10000000-0x20000000", "--runs", "4", "--no-suite", "--lines", "20", "--jobs", "1", *batch]
+            done = vma("compare", *words, "--", str(adapter))
+            self.assertIn("COMMAND has no mremap, brk, mseal, limit, top, heap", done.stderr)
+            traces = re.split("^(?=vmatrace 1$)", re.sub("(?m)^(trace|end) .*\n", "", sent.read_text()), flags=re.MULTILINE)[1:]
+            random_ones = [text for text in traces if "min" in text]
+            self.assertEqual(len(random_ones), 4, done.stdout)
+            for text in random_ones:
+                self.assertIn("\nmin 0x10000000\n", text)
+                self.assertFalse(re.search("(?m)^(top|limit|heap) |mremap|brk|mseal|GROWSDOWN", text), text)
+            self.assertEqual(done.returncode, 0, done.stdout)
+
     def test_a_call_that_a_system_has_not(self) -> None:
         self.assertEqual(beside.lacks_of(Answering("maps 0\n", "ends with status 4"), 0x10000), ["mseal"])
         self.assertEqual(beside.lacks_of(Answering("maps 0\n"), 0x10000), [])

@@ -32,7 +32,7 @@ from .fitting import fitted
 from .keeping import Kept
 from .reports import Report
 from .smaller import Smaller
-from .windows import EmptyFit, Fit
+from .windows import Both, EmptyFit, Fit
 
 QUIET_SECONDS = 30  # a line says how far the run is, where nobody looks at a terminal
 KIND_SECONDS = 10.0  # for making the trace of a kind small
@@ -61,7 +61,7 @@ class Settings:
     only: list[int] = field(default_factory=list)
     folder: Optional[Path] = None
     has_coverage: bool = False
-    fit: Optional[Union[Fit, EmptyFit, Capabilities]] = None  # how traces become such as the system can run
+    fit: Optional[Union[Fit, EmptyFit, Capabilities, Both]] = None  # how traces become such as the system can run
     words: list[str] = field(default_factory=list)  # those that a command needs to repeat a finding
     suite: list[Path] = field(default_factory=list)  # cases that are run before random traces
     grows: bool = False  # whether random traces are those of a corpus
@@ -231,7 +231,7 @@ class Campaign:
         """Examines the traces, those that were kept first, and makes each new kind small at once."""
         kept = [kept_trace(place, path)._replace(is_kept=True) for place, path in enumerate(self.kept.before)]
         rest = itertools.chain(kept, sources(self.settings, self.corpus))
-        self.keep_lacks(self.settings.fit.lacks if isinstance(self.settings.fit, (Fit, EmptyFit)) else ())
+        self.keep_lacks(self.settings.fit.lacks if self.settings.fit else ())
         try:
             while not self.is_over:
                 self.make_small()

@@ -11,6 +11,7 @@ from collections.abc import Collection, Iterator
 from dataclasses import dataclass
 
 from .. import model
+from ..systems.capabilities import Capabilities
 from ..systems.empty import LOWEST_TOP, TOP
 from ..systems.places import Window, finds_place, leaves
 from ..traces import MAP, MREMAP, PAGE, Line, Trace
@@ -76,6 +77,25 @@ class EmptyFit:
         return trace.settings.get("min", self.lowest) == self.lowest and not any(
             line.word in self.lacks for line in trace.lines
         )
+
+
+@dataclass(frozen=True)
+class Both:
+    """How traces are fitted to a place, and to what the system says that it has."""
+
+    place: Fit | EmptyFit
+    has: Capabilities
+
+    @property
+    def lacks(self) -> Collection[str]:
+        return self.place.lacks
+
+    def fitted(self, trace: Trace) -> Trace:
+        """The trace as it can run there. What is left out first would change the places; what a fit adds may be lacked."""
+        return self.has.fitted(self.place.fitted(self.has.fitted(trace)))
+
+    def keeps(self, trace: Trace) -> bool:
+        return self.place.keeps(trace) and self.has.keeps(trace)
 
 
 def is_guarded(space: model.Space, start: int, pages: int) -> bool:

@@ -95,17 +95,19 @@ class Windowed:
 @contextmanager
 def prepared(options: argparse.Namespace, settings: Settings, sides: Sides) -> Iterator[None]:
     """Makes both sides ready: the processes of a batch and of sessions, how traces are fitted, and the running kernel beside."""
+    has = None
     with ExitStack() as stack:
         if options.batch:
             sides.adapters = Adapters(sides.command)
             stack.callback(sides.adapters.close)
             if not options.system:
-                take_capabilities(settings, sides, sides.adapters.capabilities(max(settings.seconds, FIRST_SECONDS)))
+                has = sides.adapters.capabilities(max(settings.seconds, FIRST_SECONDS))
         if options.live and not options.threads:
             sides.live = Adapters([options.live], LiveAdapter)
             stack.callback(sides.live.close)
         if options.window or options.system:
             settings.fit = fit_of(options, sides)
+        take_capabilities(settings, sides, has)
         options.begin = options.begin or time.monotonic()
         if options.window and options.profile == generator.IN_TURN:
             settings.profiles = windows.PROFILES
@@ -115,11 +117,11 @@ def prepared(options: argparse.Namespace, settings: Settings, sides: Sides) -> I
 
 
 def take_capabilities(settings: Settings, sides: Sides, has: Capabilities | None) -> None:
-    """Makes traces of what COMMAND says that it has, if it says so."""
+    """Makes traces of what COMMAND says that it has, if it says so; they keep to the window too."""
     if has is None or not has.missing:
         return
     console.say(f"COMMAND has no {', '.join(has.missing)}: traces are made without")
-    settings.fit = has
+    settings.fit = windows.Both(settings.fit, has) if settings.fit else has
     sides.rules.last_lists = sides.rules.last_lists and "maps" in has.words
 
 

@@ -4,6 +4,7 @@ A word is an operation, a setting, `wide` for addresses of 57 bits, or `-FLAG` f
 made of these alone. An adapter need not say so.
 """
 
+from collections.abc import Collection
 from dataclasses import dataclass
 
 from ..traces import FORMS, MAP, MREMAP, SETTINGS, Line, Trace
@@ -20,6 +21,7 @@ class Capabilities:
     """What a system has: a way to fit traces, as those of vmatools.comparing.windows."""
 
     words: frozenset[str]
+    lacks: Collection[str] = ()  # nothing beside what it says
 
     @property
     def missing(self) -> list[str]:
