@@ -209,7 +209,7 @@ class Reports(InFolder):
             root = ElementTree.fromstring(path.read_text(encoding="utf-8").split("\n", 1)[1])
             self.assertEqual([root.get(name) for name in ("tests", "errors", "failures")], ["2", "2", "0"])
             errors = {case.get("name"): case[0].get("message") or "" for case in root}
-            self.assertEqual(sorted(errors), ["again", "whole"])  # type: ignore[type-var]
+            self.assertEqual(sorted(errors), ["again", "whole"])
             self.assertTrue(all(message.startswith(f"not run: {why}") for message in errors.values()), errors)
             self.assertEqual((self.top / "tap").read_text(encoding="utf-8").count("\nnot ok "), 2)
 

@@ -13,14 +13,13 @@ from dataclasses import dataclass, field
 from pathlib import Path
 from queue import SimpleQueue
 from types import FrameType
-from typing import Any, NamedTuple, Optional, Union
+from typing import Any, NamedTuple, Optional
 
 from .. import outputs
 from ..console import Failure, Progress, say
 from ..oracles import PROFILE, Oracle
 from ..profile import coverage
 from ..running import children
-from ..systems.capabilities import Capabilities
 from ..traces import BadLine, Trace, read_trace
 from ..words import repeated
 from . import conformance, generator, ranking
@@ -32,7 +31,7 @@ from .fitting import fitted
 from .keeping import Kept
 from .reports import Report
 from .smaller import Smaller
-from .windows import Both, EmptyFit, Fit
+from .windows import AnyFit
 
 QUIET_SECONDS = 30  # a line says how far the run is, where nobody looks at a terminal
 KIND_SECONDS = 10.0  # for making the trace of a kind small
@@ -61,7 +60,7 @@ class Settings:
     only: list[int] = field(default_factory=list)
     folder: Optional[Path] = None
     has_coverage: bool = False
-    fit: Optional[Union[Fit, EmptyFit, Capabilities, Both]] = None  # how traces become such as the system can run
+    fit: Optional[AnyFit] = None  # how traces become such as the system can run
     words: list[str] = field(default_factory=list)  # those that a command needs to repeat a finding
     suite: list[Path] = field(default_factory=list)  # cases that are run before random traces
     grows: bool = False  # whether random traces are those of a corpus

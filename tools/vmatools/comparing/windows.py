@@ -83,7 +83,7 @@ class EmptyFit:
 class Both:
     """How traces are fitted to a place, and to what the system says that it has."""
 
-    place: Fit | EmptyFit
+    place: "AnyFit"
     has: Capabilities
 
     @property
@@ -96,6 +96,9 @@ class Both:
 
     def keeps(self, trace: Trace) -> bool:
         return self.place.keeps(trace) and self.has.keeps(trace)
+
+
+AnyFit = Fit | EmptyFit | Capabilities | Both
 
 
 def is_guarded(space: model.Space, start: int, pages: int) -> bool:
