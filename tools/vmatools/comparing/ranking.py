@@ -15,7 +15,7 @@ RANKS = ("hang", "crash", "lost or wrong data", "protection", "list", "reply", "
 ENDS = (0, 1)  # the places of a system that ends, or doesn't
 HANGS = ("does not end", "hung", "writes on and on")
 CRASH = re.compile("(ends|killed) by signal .*|(ends|ended) with status .*|ends")
-NO_OUTPUT = ("the output ends", "a line of no known form", "the output goes on", "no newline at the end")
+NO_OUTPUT = ("writes nothing", "the output ends", "a line of no known form", "the output goes on", "no newline at the end")
 WRONG_DATA = ("mapped", "not mapped", "offset", "device", "inode", "overlap")
 
 
@@ -26,6 +26,7 @@ def rank_of(difference: Difference) -> int:
 
 def name_of(difference: Difference) -> str:
     operation, here, there = difference[:3]
+    there = there.removeprefix("illegal: ")  # as in a run of threads
     if there in HANGS:
         return "hang"
     if CRASH.fullmatch(there) or there.startswith(NO_OUTPUT):
