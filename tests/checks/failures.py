@@ -17,11 +17,12 @@ from contextlib import suppress
 from functools import partial
 from typing import Any
 
-from checking import TOP, Options, answer, bytes_of, compare, expect, fail, limit, live_of, passed
+from checking import TOP, Options, Words, answer, bytes_of, compare, expect, fail, limit, live_of, passed
 from vmatools.unproved import sessions
 
 SECONDS = 10
-PIECE = 65_536  # the program gives so many bytes at a time
+PIECE = 65_536  # the program reads and gives so many bytes at a time
+SESSION_PIECE = 8_192  # a session reads so many
 MIB = 2**20
 MOST_AREAS = 65_530
 MOST_LISTS = 64  # that a trace may read
@@ -116,6 +117,54 @@ def check_waits(program: str) -> None:
     passed("what would have to wait, or is read by nobody")
 
 
+def packets() -> tuple[socket.socket, socket.socket]:
+    """Two ends between which each write is a packet, and each read takes one: what it has no room for is lost."""
+    ends = socket.socketpair(socket.AF_UNIX, socket.SOCK_SEQPACKET)
+    for end in ends:
+        end.setsockopt(socket.SOL_SOCKET, socket.SO_SNDBUF, MIB)
+    return ends
+
+
+def packets_given(name: str, command: Words, text: list[bytes]) -> list[bytes]:
+    """The packets of the output of a run over these packets, behind whose end more stands, which nobody asks for."""
+    (to, stdin), (answers, stdout) = packets(), packets()
+    with to:
+        for packet in [*text, b"", b"behind the end\n"]:
+            to.send(packet)
+    with answers:
+        with stdin, stdout:
+            expect(name, command, SECONDS, stdin=stdin, stdout=stdout)
+        return list(iter(lambda: answers.recv(MIB), b""))
+
+
+def parts(text: bytes, *places: int) -> list[bytes]:
+    """A text, cut at these places."""
+    return [text[start:end] for start, end in zip([0, *places], [*places, len(text)])]
+
+
+def check_pieces(program: str, session: str) -> None:
+    """A read asks for a whole piece, a write gives one, what was read is answered before more is, and an end is an end."""
+    faults = 3_000
+    trace = b"vmatrace 1\n" + (b"#" * 4_000 + b"\n") * 16 + b"0 fault 0 r\n" * faults
+    output = b"".join(b"L%d t0 v0 = SIGSEGV SEGV_MAPERR\n" % line for line in range(18, 18 + faults)) + b"maps 0\n"
+    judged = trace + b"==\n" + output
+    talk = b"vmatrace 1\n" + b"0 fault 0 r\n" * 1_000
+    places = SESSION_PIECE, SESSION_PIECE + 1_000  # within a line each
+    answered = [len(sessions.answers(talk[:place], has_end=False)) for place in (*places, len(talk))]
+    runs: list[tuple[list[str], list[bytes], list[bytes]]] = [
+        (["serial"], parts(trace, PIECE), parts(output, PIECE)),
+        (["check"], parts(judged, *range(PIECE, len(judged), PIECE)), [b"legal\n"]),
+        ([], parts(talk, *places), parts(sessions.answers(talk), *answered)),
+    ]
+    for words, text, wanted in runs:
+        name = f"{called(words)}, by packets"
+        given = packets_given(name, [program if words else session, *words], text)
+        compare(f"{name}, standard output", b"".join(given), b"".join(wanted))
+        if given != wanted:
+            fail(name, f"gives {[*map(len, given)]} bytes at a time, and not {[*map(len, wanted)]}")
+        passed(name)
+
+
 def check_devices(program: str) -> None:
     """A folder cannot be read, and /dev/full not be written; a line that cannot be written to standard error is left out."""
     full, folder = os.open("/dev/full", os.O_WRONLY), os.open(TOP, os.O_RDONLY)
@@ -176,5 +225,6 @@ def check(options: Options) -> None:
     check_writes(session, [], SESSION)
     check_reads(session, [], SESSION)
     check_waits(program)
+    check_pieces(program, session)
     check_devices(program)
     check_memory(program, session)
