@@ -27,7 +27,7 @@ THREADS = 64
 FILES = 1_024
 AREAS = 65_530
 CHILDREN = 8
-CHILD_LINES = 50_000
+CHILD_LINES = 400_000
 LINE_BYTES = 4_096
 SCRIPT_LINES = 10_000
 TEXT_BYTES = 268_435_456
@@ -160,6 +160,7 @@ def check_summaries(program: str) -> None:
         (0, 0, (0, 0, 0, 0, 0, 0)),
         (1, 0, (0, 0, 1, 0, 0, 0)),
         (1, 4, (1, 0, 0, 0, 1, 1)),
+        (1, 11, (1, 0, 0, 0, 1, 1)),  # of all lines that a load may have, one of the longest
         (20000, 1, (15001, 4240, 4999, 781, 15001, 7108)),
     ):
         names = ("calls", "refused", "faults", "served", "version", "areas")
@@ -193,9 +194,11 @@ def turns(count: int) -> Iterator[str]:
 def check_scripts(program: str) -> None:
     """The longest scripts: as many lines as one may have, each as long as a line may be, and a line more."""
     looks = ["add 0 0", "look 0", "sub 0", "begin", "mark 0", "end 0 munmap 0x1000 4096"]
+    marks = ["begin", *(f"mark {slot}" for slot in range(8)), "end 0 munmap 0x1000 4096"]
     trees = [f"publish {tree} 0" for tree in range(1, SCRIPT_LINES - 3)]
     for name, script in (
         ("a reader beside calls", ["lock 1 1", *looks * ((SCRIPT_LINES - 2) // 6)]),
+        ("the longest output", ["lock 8 8", *marks * ((SCRIPT_LINES - 2) // 10)]),
         ("the most calls", ["lock 1 1", *["begin", "end 0 munmap 0x1000 4096"] * (SCRIPT_LINES // 2 - 1)]),
         ("a reader beside two rows that take turns", ["grace 1 2", *turns((SCRIPT_LINES - 2) // 6)]),
         ("the most trees", ["grace 1 2", "open 0", *trees, "root 0"]),
@@ -236,13 +239,13 @@ def tasks_of(process: int) -> int:
         return 0
 
 
-def check_children_at_once(program: str) -> None:
-    """Children, of which at some moment more than half have a thread of their own."""
-    name = "children at once"
+def check_children_at_once(program: str, count: int) -> None:
+    """So many children, of which at some moment more than half have a thread of their own."""
+    name = f"{count} children at once"
     if not tasks_of(os.getpid()):
         return skipped(name, "the system does not show the threads of a process")
-    children = range(1, CHILDREN + 1)
-    faults = [f"{child} fault 0 r" for _ in range(CHILD_LINES) for child in children]
+    children = range(1, count + 1)
+    faults = [f"{child} fault 0 r" for _ in range(CHILD_LINES // count) for child in children]
     most = 0
     with tempfile.TemporaryFile() as trace:
         trace.write(bytes_of(["vmatrace 1", *(f"0 fork {child}" for child in children), *faults]))
@@ -253,8 +256,8 @@ def check_children_at_once(program: str) -> None:
             time.sleep(0.001)
     if run.returncode:
         fail(name, f"has status {run.returncode}, and not 0")
-    if most <= CHILDREN // 2:
-        fail(name, f"{CHILDREN} children have {most} threads at most")
+    if most <= count // 2:
+        fail(name, f"they have {most} threads at most")
     passed(name)
 
 
@@ -314,6 +317,7 @@ def check(options: Options) -> None:
     for name, more in (("a byte more", 1), ("many bytes more", 100_000_000)):
         check_run(program, name, ["check"], 3, too_long, trace=largest + bytes(more))
     check_all_at_once(program)
-    check_children_at_once(program)
+    for count in (2, CHILDREN):
+        check_children_at_once(program, count)
     check_threads(program, "a writer beside seven readers of one page", waits(), 60)
     check_largest(program)
