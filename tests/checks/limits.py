@@ -151,6 +151,11 @@ def check_text(program: str, name: str, data: bytes, address: int = 0, most_read
     return took + check_run(program, name, ["query", str(address)], data, maps_texts.query(data, address), most_read)
 
 
+def longest_name(file: int, inode: int) -> bytes:
+    """A name with which the line of a trace that opens this file is as long as a line may be."""
+    return b"/".ljust(MOST["line"] - len(b"file %d rw 9223372036854775807 08:01 %d " % (file, inode)), b"n")
+
+
 def check_texts(program: str) -> None:
     """The longest maps texts and lines, the most areas and files, each with one more."""
     line = [
@@ -160,8 +165,8 @@ def check_texts(program: str) -> None:
     long = maps_texts.MOST_LINE - 1
     whole = b"".join(area.ljust(long) + b"\n" for area in line[: MOST["bytes"] // (long + 1)])
     named = [
-        (b"%08x-%08x r--p 00000000 08:01 %d " % (place, place + PAGE, place)).ljust(73) + b"/" + b"n" * 4000
-        for place in range(0x10000, 0x10000 + 1025 * PAGE, PAGE)
+        (b"%08x-%08x r--p 00000000 08:01 %d " % (place, place + PAGE, place)).ljust(73) + longest_name(file, place)
+        for file, place in enumerate(range(0x10000, 0x10000 + 1025 * PAGE, PAGE), 3)
     ]
     texts = [
         ("the most bytes", whole, None),
@@ -171,6 +176,7 @@ def check_texts(program: str) -> None:
         ("an area more", b"\n".join(line[: traces.MOST_AREAS + 1]) + b"\n", None),
         ("the most files", b"\n".join(named[:1024]) + b"\n", None),
         ("a file more", b"\n".join(named) + b"\n", None),
+        ("a longer name", named[0] + b"n\n", None),
         ("the longest line", line[0].ljust(long + 1) + b"\n", None),
         ("a longer line", line[0].ljust(long + 2) + b"\n", None),
     ]
