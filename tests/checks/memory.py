@@ -67,11 +67,12 @@ def lines_of(output: bytes) -> int:
 
 
 def is_right(done: Done, whole: Done, words: list[str]) -> bool:
-    """Whether a run gave the whole output, or was out of memory and gave a beginning of it; that of `threads` varies."""
+    """Whether a run gave the whole output, or was out of memory and gave less of it; that of `threads` varies."""
     if done.returncode == 0:
         return done.stdout == whole.stdout or words == ["threads"] and lines_of(done.stdout) == lines_of(whole.stdout)
     begins = whole.stdout.startswith(done.stdout) or words == ["threads"] and lines_of(done.stdout) <= lines_of(whole.stdout)
-    return begins and (done.returncode, done.stderr) == (6, b"no memory\n")
+    is_less = words == ["threads"] or len(done.stdout) < len(whole.stdout)
+    return begins and is_less and (done.returncode, done.stderr) == (6, b"no memory\n")
 
 
 def check(options: Options) -> None:
