@@ -22,6 +22,8 @@ SECONDS = 60
 TRIES = 5
 MOST_TIMES = 7
 MOST_AREAS = 65_530
+MOST_NAMED = 1_000
+MOST_LINE = 4_096
 SOME_AREAS = 16_384
 MOST_ADDRESSES = 512 * MIB
 CALLERS = 64
@@ -82,6 +84,18 @@ def placed(count: int) -> list[str]:
 def reads_of(areas: int) -> Made:
     """So many areas, and reads of their list."""
     return lambda count: ["vmatrace 1", *mapped(range(areas)), *["0 maps"] * count]
+
+
+def named(count: int) -> list[str]:
+    """Calls, and as many faults of another thread as may name a line: each names the last of them."""
+    return [*calls(count), *[f"1 fault 0x1000 r after={count + 1}"] * MOST_NAMED]
+
+
+def named_longest(count: int) -> list[str]:
+    """Areas of one file, whose name fills its line."""
+    front = "file 3 rw 1048576 08:01 3 "
+    lines = (f"0 mmap {place(area):#x} 4096 PROT_READ MAP_PRIVATE|MAP_FIXED 3 0" for area in range(count))
+    return ["vmatrace 1", front + "/".ljust(MOST_LINE - len(front), "n"), *lines]
 
 
 def opened(areas: int) -> list[str]:
@@ -164,6 +178,7 @@ MEMORY: list[tuple[str, Mode, Input, tuple[Size, ...]]] = [
     ("children", ["serial"], given(children), (Size(50_000, 188, 160), Size(100_000, 276, 233))),
     ("areas that come and leave", ["serial"], given(leaving), (Size(32_000, 36, 22), Size(128_000, 120, 77))),
     ("reads of many areas", ["serial"], given(reads_of(MOST_AREAS)), (Size(16, 1000, 108), Size(64, 1000, 252))),
+    ("a list of long names", ["serial"], given(named_longest), (Size(4_000, 18, 12), Size(16_000, 63, 40))),
     ("reads of one area", ["serial"], given(reads_of(1)), (Size(16, 4, 6), Size(64, 4, 6))),
     ("a load", ["generate", "{}", "1"], nothing, (Size(100_000, 115, 65), Size(400_000, 225, 153))),
     ("a text of calls", ["check"], judged(calls), (Size(200_000, 75, 50), Size(800_000, 205, 166))),

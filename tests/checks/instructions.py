@@ -19,7 +19,8 @@ from pathlib import Path
 from typing import NamedTuple
 
 from checking import bytes_of, check_ended, fail, live_of, passed, skipped
-from costs import Input, calls, faults, files, given, judged, leaving, moving, nothing, placed, reads_of, script, shared, spaces
+from costs import Input, calls, faults, files, given, judged, leaving, moving, named, nothing, placed, reads_of, script, shared
+from costs import spaces
 
 KEPT = Path(__file__).with_suffix(".tsv")
 SECONDS = 120
@@ -42,6 +43,7 @@ COUNTED = [
     Counted("calls", ["serial"], given(calls), 5_000),
     Counted("calls of many threads", ["serial"], given(shared), 5_000),
     Counted("faults", ["serial"], given(faults), 10_000),
+    Counted("faults that name a call", ["serial"], given(named), 2_000),
     Counted("areas that come and leave", ["serial"], given(leaving), 4_000),
     Counted("an area that moves past others", ["serial"], given(moving), 2_000),
     Counted("calls that name no place", ["serial"], given(placed), 2_000),
