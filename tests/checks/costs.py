@@ -29,6 +29,8 @@ MOST_ADDRESSES = 512 * MIB
 CALLERS = 64
 WAITING_TIMES = 4
 CHILDREN = 8
+NOTES = 200
+PLACE = 0x10000000
 ANONYMOUS = "MAP_PRIVATE|MAP_ANONYMOUS|MAP_FIXED"
 
 Made = Callable[[int], list[str]]  # the lines of an input of a size
@@ -36,7 +38,7 @@ Input = Callable[[str, int], bytes]  # the input of a size, for a program
 
 
 def place(area: int) -> int:
-    return 0x10000000 + 8192 * area
+    return PLACE + 8192 * area
 
 
 def mapped(areas: Iterable[int], thread: int = 0) -> list[str]:
@@ -56,6 +58,12 @@ def shared(count: int) -> list[str]:
     return [head, *(f"{at % CALLERS}{line[1:]}" for at, line in enumerate(lines))]
 
 
+def named_in_turn(count: int) -> list[str]:
+    """Calls, and behind them some of all threads in turn, each of which names the line before it."""
+    chain = (f"{note % CALLERS} munmap {PLACE:#x} 4096 after={count + note}" for note in range(1, NOTES + 1))
+    return [*calls(count), *chain]
+
+
 def faults(count: int) -> list[str]:
     return ["vmatrace 1", *(f"0 fault {4096 * (line % 5):#x} r" for line in range(count))]
 
@@ -73,6 +81,19 @@ def moving(count: int) -> list[str]:
     ends = place(-1), place(half)
     ways = [f"0 mremap {old:#x} 4096 4096 MREMAP_MAYMOVE|MREMAP_FIXED {new:#x}" for old, new in (ends, ends[::-1])]
     return ["vmatrace 1", *mapped(range(-1, half)), *(ways[turn % 2] for turn in range(half))]
+
+
+def leaving_together(count: int) -> list[str]:
+    """Areas side by side, no two of which join, and a call that takes all away but a page of the first."""
+    ways = [f"PROT_READ {ANONYMOUS}", f"PROT_READ|PROT_WRITE {ANONYMOUS}"]
+    first = f"0 mmap {PLACE:#x} 8192 {ways[0]} -1 0"
+    others = (f"0 mmap {PLACE + 4096 * area + 4096:#x} 4096 {ways[area % 2]} -1 0" for area in range(1, count))
+    return ["vmatrace 1", first, *others, f"0 munmap {PLACE + 4096:#x} {4096 * count}"]
+
+
+def faults_before_one(count: int) -> list[str]:
+    """Faults of a thread, and one of a lower thread behind them, which a history tells first."""
+    return ["vmatrace 1", *["1 fault 0x1000 r"] * count, "0 fault 0x1000 r"]
 
 
 def placed(count: int) -> list[str]:
@@ -98,9 +119,14 @@ def named_longest(count: int) -> list[str]:
     return ["vmatrace 1", front + "/".ljust(MOST_LINE - len(front), "n"), *lines]
 
 
+def limited(areas: int) -> list[str]:
+    """A space for so many areas, which has one, and a read of its list."""
+    return ["vmatrace 1", f"limit areas {areas}", *mapped([0]), "0 maps"]
+
+
 def opened(areas: int) -> list[str]:
-    """A space for so many areas, which has one, a read of its list, and as many lines as may need the most areas, three each."""
-    return ["vmatrace 1", f"limit areas {areas}", *mapped([0]), "0 maps", *["0 fault 0x1000 r"] * (MOST_AREAS // 3)]
+    """The same, and as many lines as may need the most areas, three each."""
+    return [*limited(areas), *["0 fault 0x1000 r"] * (MOST_AREAS // 3)]
 
 
 def together(count: int) -> list[str]:
@@ -128,6 +154,12 @@ def children(count: int) -> list[str]:
     """Calls, and as many children as there may be behind them, each of which reads its list."""
     forks = [f"0 fork {child}" for child in range(1, CHILDREN + 1)]
     return [*calls(count), *forks, *(f"{child} maps" for child in range(1, CHILDREN + 1))]
+
+
+def of_child(count: int) -> list[str]:
+    """Such calls of a child."""
+    head, *lines = calls(count)
+    return [head, "0 fork 1", *(f"1{line[1:]}" for line in lines)]
 
 
 def script(count: int) -> list[str]:
@@ -176,6 +208,7 @@ MEMORY: list[tuple[str, Mode, Input, tuple[Size, ...]]] = [
     ("calls in threads", ["threads"], given(calls), (Size(0, 4, 6), Size(200_000, 147, 95), Size(800_000, 415, 316))),
     ("faults in threads", ["threads"], given(faults), (Size(200_000, 156, 106), Size(800_000, 533, 418))),
     ("children", ["serial"], given(children), (Size(50_000, 188, 160), Size(100_000, 276, 233))),
+    ("calls of a child", ["serial"], given(of_child), (Size(200_000, 169, 117), Size(800_000, 483, 403))),
     ("areas that come and leave", ["serial"], given(leaving), (Size(32_000, 36, 22), Size(128_000, 120, 77))),
     ("reads of many areas", ["serial"], given(reads_of(MOST_AREAS)), (Size(16, 1000, 108), Size(64, 1000, 252))),
     ("a list of long names", ["serial"], given(named_longest), (Size(4_000, 18, 12), Size(16_000, 63, 40))),
@@ -183,6 +216,8 @@ MEMORY: list[tuple[str, Mode, Input, tuple[Size, ...]]] = [
     ("a load", ["generate", "{}", "1"], nothing, (Size(100_000, 115, 65), Size(400_000, 225, 153))),
     ("a text of calls", ["check"], judged(calls), (Size(200_000, 75, 50), Size(800_000, 205, 166))),
     ("a text of calls of many threads", ["check"], judged(shared), (Size(200_000, 75, 50),)),
+    ("a text of a space for few areas", ["check"], judged(limited), (Size(1, 4, 6),)),
+    ("a text of reads of many areas", ["check"], judged(reads_of(8_000)), (Size(16, 40, 13), Size(64, 66, 31))),
     ("an address in a list", ["query", "0x10000000"], given(maps), (Size(250_000, 44, 34), Size(1_000_000, 158, 132))),
     ("a list", ["retrace"], given(maps), (Size(16_000, 12, 8), Size(64_000, 24, 20))),
     ("a list of files", ["retrace"], given(files), (Size(256, 4, 6), Size(1_024, 5, 6))),
@@ -190,6 +225,7 @@ MEMORY: list[tuple[str, Mode, Input, tuple[Size, ...]]] = [
     ("calls of a session", None, given(calls), (Size(200_000, 54, 23), Size(800_000, 127, 83))),
     ("reads of many areas in a session", None, given(reads_of(MOST_AREAS)), (Size(16, 48, 22), Size(64, 48, 22))),
     ("spaces of a session", None, given(spaces), (Size(1, 30, 6), Size(1_000, 30, 6))),
+    ("a space for few areas of a session", None, given(limited), (Size(1, 4, 6), Size(1_024, 4, 6))),
 ]
 
 # the same as of memory, with the smaller of the two sizes
@@ -197,11 +233,14 @@ TIME: list[tuple[str, Mode, Input, int]] = [
     ("calls", ["serial"], given(calls), 100_000),
     ("faults", ["serial"], given(faults), 100_000),
     ("areas that come and leave", ["serial"], given(leaving), 32_000),
+    ("areas that leave together", ["serial"], given(leaving_together), 16_000),
     ("an area that moves past others", ["serial"], given(moving), 25_000),
+    ("faults that a later line comes before", ["serial"], given(faults_before_one), 50_000),
     ("a load", ["generate", "{}", "1"], nothing, 100_000),
     ("a text of calls", ["check"], judged(calls), 50_000),
     ("a text of an area that moves past others", ["check"], judged(moving), 25_000),
     ("a text of areas that come and leave", ["check"], judged(leaving), 32_000),
+    ("a text of areas that leave together", ["check"], judged(leaving_together), 16_000),
     ("a text of areas that name no place", ["check"], judged(placed), 16_000),
     ("an address in a list", ["query", "0x10000000"], given(maps), 250_000),
     ("calls in threads", ["threads"], given(calls), 100_000),

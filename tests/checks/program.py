@@ -108,6 +108,18 @@ def areas() -> Run:
     return run
 
 
+def ranges() -> Run:
+    """Calls on a mapping of 2^32 pages, each of which looks at areas and not at pages."""
+    run = Run()
+    place = length = 2**44
+    run.call(0, f"mmap {place:#x} {length} PROT_READ {ANONYMOUS} -1 0", f"{place:#x}")
+    run.call(0, f"mprotect {place:#x} {length} PROT_NONE", "0")
+    run.call(0, f"mseal {place:#x} {length} 0", "0")
+    run.call(0, f"munmap {place:#x} {length}", "-1 EPERM")
+    run.output += ["maps 1", f"{place:08x}-{place + length:08x} ---p 00000000 00:00 0 "]
+    return run
+
+
 def check_run(
     program: str,
     name: str,
@@ -279,7 +291,7 @@ def waits() -> list[str]:
 
 def check_largest(program: str) -> None:
     """The largest traces: in `serial`, judged, and in `threads`."""
-    for made, seconds in ((areas, 5), (operations, 60)):
+    for made, seconds in ((ranges, 1), (areas, 5), (operations, 60)):
         run, name = made(), made.__name__
         trace, output = bytes_of(run.trace), bytes_of(run.output)
         check_run(program, f"{name}, serial", ["serial"], output=output, trace=trace, seconds=seconds)
@@ -290,10 +302,10 @@ def check_largest(program: str) -> None:
             (" with one line more", both + b"maps 0\n", f"bad {count + 1}"),
         ):
             check_run(program, f"{name}, judged{what}", ["check"], output=bytes_of([said]), trace=given, seconds=seconds)
-        if made is areas:
-            check_run(program, "areas, threads", ["threads"], output=output, trace=trace, seconds=seconds)
-        else:
+        if made is operations:
             check_threads(program, name, run.trace, seconds)
+        else:
+            check_run(program, f"{name}, threads", ["threads"], output=output, trace=trace, seconds=seconds)
 
 
 def check(options: Options) -> None:
