@@ -1,4 +1,5 @@
-"""Checks that no run takes more instructions than it is known to take, and that a run of a call starts at once.
+"""Checks that no run takes more instructions than it is known to take, that none lets other threads run where there is none,
+and that a run of a call starts at once.
 
 Both programs are proved ones: a build for trials takes others. Each of some inputs, named in instructions.tsv beside this
 file, is run once under `valgrind --tool=callgrind`, which counts the same number for the same program and input whatever else
@@ -19,8 +20,8 @@ from pathlib import Path
 from typing import NamedTuple
 
 from checking import bytes_of, check_ended, fail, live_of, passed, skipped
-from costs import Input, calls, faults, files, given, judged, leaving, moving, named, nothing, placed, reads_of, script, shared
-from costs import spaces
+from costs import Input, calls, faults, files, given, judged, leaving, moving, named, named_in_turn, nothing, of_child, placed
+from costs import reads_of, script, shared, spaces
 
 KEPT = Path(__file__).with_suffix(".tsv")
 SECONDS = 120
@@ -42,6 +43,8 @@ COUNTED = [
     Counted("a call in threads", ["threads"], given(calls), 1),
     Counted("calls", ["serial"], given(calls), 5_000),
     Counted("calls of many threads", ["serial"], given(shared), 5_000),
+    Counted("calls that name calls in threads", ["threads"], given(named_in_turn), 5_000),
+    Counted("calls of a child", ["serial"], given(of_child), 2_000),
     Counted("faults", ["serial"], given(faults), 10_000),
     Counted("faults that name a call", ["serial"], given(named), 2_000),
     Counted("areas that come and leave", ["serial"], given(leaving), 4_000),
@@ -71,12 +74,16 @@ def keep(numbers: dict[str, int]) -> None:
 
 
 def instructions(name: str, command: list[str], text: bytes) -> int:
-    """The instructions of a run that has to end well."""
+    """The instructions of a run that has to end well, and in which no caller has another to wait for."""
     with tempfile.TemporaryDirectory() as folder:
-        under = ["valgrind", "--tool=callgrind", f"--callgrind-out-file={folder}/out", f"--log-file={folder}/log", *command]
+        files = [f"--callgrind-out-file={folder}/out", f"--log-file={folder}/log"]
+        under = ["valgrind", "--tool=callgrind", "--trace-syscalls=yes", *files, *command]
         done = subprocess.run(under, input=text, stdout=subprocess.DEVNULL, stderr=subprocess.PIPE, timeout=SECONDS)
         check_ended(name, done, 0)
-        found = re.search(r"Collected : (\d+)", Path(folder, "log").read_text(encoding="utf-8"))
+        log = Path(folder, "log").read_text(encoding="utf-8")
+    if yields := log.count("sched_yield"):
+        fail(name, f"lets other threads run {yields} times")
+    found = re.search(r"Collected : (\d+)", log)
     if found is None:
         fail(name, "callgrind tells no count")
     return int(found[1])
