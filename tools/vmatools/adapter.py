@@ -33,6 +33,7 @@ import traceback
 from collections.abc import Callable
 from typing import Any, NamedTuple, NoReturn
 
+from .console import Failure
 from .model import reply_text
 from .profile.serial import serial_output
 from .systems.batch import requests
@@ -84,10 +85,13 @@ def serve(space_type: Callable[[Settings], Any]) -> NoReturn:
     source = open(0, "rb", closefd=False)
     if source.peek(6)[:6] == b"trace ":
         print(capabilities(space_type), flush=True)
-        for request in requests(source):
-            output, ending = answered(space_type, request.text)
-            sys.stdout.buffer.write(f"{output}end {request.number}{ending}\n".encode())
-            sys.stdout.buffer.flush()
+        try:
+            for request in requests(source):
+                output, ending = answered(space_type, request.text)
+                sys.stdout.buffer.write(f"{output}end {request.number}{ending}\n".encode())
+                sys.stdout.buffer.flush()
+        except Failure as failure:
+            sys.exit(str(failure))
         sys.exit(0)
     output, ending = answered(space_type, source.read())
     sys.stdout.buffer.write(output.encode())

@@ -138,10 +138,11 @@ def main(words: list[str]) -> int:
     """Runs a subcommand, writes what there is, and returns the exit status, whatever happens."""
     gc.set_threshold(100_000, 50, 50)  # a large input is many small objects, of which none goes before the end
     try:
+        console.hear_signals()
         console.open_output()
         return finished(words)
-    except KeyboardInterrupt:
-        return ended_early(console.Failure("interrupted", console.INTERRUPTED))
+    except KeyboardInterrupt as interrupt:
+        return ended_early(console.interruption(interrupt))
     except console.OutputFailure as failure:
         console.say(failure)
         console.drop_output()

@@ -6,26 +6,31 @@ import io
 import os
 import re
 import shutil
+import signal
 import sys
+import tempfile
 import textwrap
 import time
 from collections.abc import Callable, Iterator
-from contextlib import closing, contextmanager
-from typing import Any, NoReturn
+from contextlib import closing, contextmanager, suppress
+from types import FrameType
+from typing import Any, ClassVar, NoReturn
 
 TOOL = "vma"
 MOST_BYTES = 1 << 28  # of a file that is read as a whole
 
 # Exit statuses. Their table is in docs/COMPARE.md.
-DONE, FOUND, WRONG_USE, FAULT, NOT_WRITTEN, INTERRUPTED, NOT_READ_ON = 0, 1, 2, 70, 74, 130, 141
+DONE, FOUND, WRONG_USE, FAULT, NOT_WRITTEN, HUNG_UP, INTERRUPTED, NOT_READ_ON, TERMINATED = 0, 1, 2, 70, 74, 129, 130, 141, 143
 STATUSES = {
     DONE: "the work is done, and nothing (but for a baseline's) was found that differs, is wrong or is missing",
     FOUND: "something was found: a difference, a bad line, an output that is not legal, a row that is answered otherwise",
     WRONG_USE: "wrong use, or a file or program that is not there or cannot be read or run",
     FAULT: "a fault in the tool itself, which it shows",
     NOT_WRITTEN: "standard output or a file could not be written, as on a full device",
+    HUNG_UP: "ended by SIGHUP, as when its terminal is closed; what there was until then is written",
     INTERRUPTED: "interrupted by Ctrl-C; what there was until then is written",
     NOT_READ_ON: "whoever read standard output has closed it",
+    TERMINATED: "ended by SIGTERM; what there was until then is written",
 }
 
 
@@ -53,6 +58,32 @@ class OutputFailure(WriteFailure):
         super().__init__(error, "standard output")
 
 
+class Ended(KeyboardInterrupt):
+    """SIGTERM or SIGHUP, which ends a command as Ctrl-C does."""
+
+    def __init__(self, number: int) -> None:
+        super().__init__(number)
+        self.number = number
+
+
+def hear_signals() -> None:
+    """Has SIGTERM and SIGHUP end a command as Ctrl-C does. One that is ignored, as under nohup, stays so."""
+    for number in (signal.SIGTERM, signal.SIGHUP):
+        if signal.getsignal(number) is signal.SIG_DFL:
+            signal.signal(number, raise_end)
+
+
+def raise_end(number: int, _: FrameType | None) -> NoReturn:
+    raise Ended(number)
+
+
+def interruption(interrupt: KeyboardInterrupt, more: str = "") -> Failure:
+    """How a command ends that a signal ends."""
+    if isinstance(interrupt, Ended):
+        return Failure(f"ended by {signal.Signals(interrupt.number).name}{more}", 128 + interrupt.number)
+    return Failure(f"interrupted{more}", INTERRUPTED)
+
+
 def reason(error: OSError, name: str | os.PathLike[str] | None = None) -> str:
     """A failure of the system as `FILE: cause`, without its number."""
     front = error.filename if name is None else name
@@ -62,16 +93,21 @@ def reason(error: OSError, name: str | os.PathLike[str] | None = None) -> str:
 
 def say(text: object) -> None:
     """A line on standard error, behind the name of the command."""
-    try:
-        print(f"{TOOL}: {text}", file=sys.stderr, flush=True)
-    except (OSError, ValueError):
-        pass  # nobody can be told
+    write_error(f"{TOOL}: {text}\n")
+
+
+def write_error(text: str) -> None:
+    """Writes on standard error, as long as somebody can be told there."""
+    if sys.stderr:
+        with suppress(OSError, ValueError):
+            print(text, end="", file=sys.stderr, flush=True)
 
 
 def ended(tool: str, main: Callable[[], int]) -> NoReturn:
     """Runs a program that is none of vma's commands, and ends it: by its status, or by its failure, which it says."""
     global TOOL
     TOOL = tool
+    hold_descriptors()
     try:
         sys.exit(main())
     except Failure as failure:
@@ -98,11 +134,13 @@ class OutputFile(io.FileIO):
     """A file that is written, whose failures tell its name: a full device is met long after the file was opened."""
 
     shown = ""
+    has_failed = False
 
     def write(self, data: Any) -> int:
         try:
             return super().write(data)
         except OSError as error:
+            self.has_failed = True
             raise WriteFailure(error, printable(self.shown)) from None
 
 
@@ -130,31 +168,74 @@ def write_file(path: str | os.PathLike[str], text: str | bytes) -> None:
 
 class NewFile:
     """A file that takes the place of an old one where it is asked to, so that the old one stays until then. What is no plain
-    file, as a device or a pipe, is written as it is."""
+    file, as a device or a pipe, is written as it is; what a link leads to is written, and the link stays."""
+
+    open_places: ClassVar[set[str]] = set()
 
     def __init__(self, path: str | os.PathLike[str]) -> None:
         self.path = os.fspath(path)
-        self.is_beside = not os.path.exists(self.path) or os.path.isfile(self.path)
-        self.beside = f"{self.path}.new" if self.is_beside else self.path
+        self.place = os.path.realpath(self.path) if "\0" not in self.path else self.path
+        self.is_beside = os.path.isfile(self.place) or not os.path.exists(self.place)
+        if self.is_beside and self.place in self.open_places:
+            raise Failure(f"{printable(self.path)}: it is given twice: each needs a file of its own")
+        self.beside = self.made_beside() if self.is_beside else self.path
         self.stream = open_file(self.beside, shown=self.path)
+        self.raw: OutputFile = self.stream.buffer.raw  # type: ignore[attr-defined]
+        self.open_places.add(self.place)
+
+    def made_beside(self) -> str:
+        """An empty file beside the place, by a name that nobody has, with the rights of the file that is there."""
+        try:
+            if os.path.exists(self.place):
+                os.close(os.open(self.place, os.O_WRONLY))  # who may not write the old one may not replace it
+                mode = os.stat(self.place).st_mode & 0o777
+            else:
+                mode = 0o666 & ~umask()
+            handle, beside = tempfile.mkstemp(".new", f".{os.path.basename(self.place)[:80]}.", os.path.dirname(self.place))
+            os.fchmod(handle, mode)
+            os.close(handle)
+        except OSError as error:
+            raise WriteFailure(error, self.path) if error.errno == errno.ENOSPC else Failure(reason(error, self.path)) from None
+        except ValueError as error:  # a zero byte in the name
+            raise Failure(f"{printable(self.path)}: {error}") from None
+        return beside
 
     def take_place(self) -> None:
         """Goes to its place, with what was written so far. More may be written."""
         self.stream.flush()
         if self.is_beside:
             try:
-                os.replace(self.beside, self.path)
+                os.replace(self.beside, self.place)
             except OSError as error:
                 raise Failure(reason(error, self.path)) from None
             self.is_beside = False
 
     def close(self) -> None:
-        """Ends it. One that hasn't taken its place is gone."""
-        try:
+        """Ends it. One that hasn't taken its place is gone. A failure to write it is told once."""
+        self.open_places.discard(self.place)
+        with suppress(*([WriteFailure] if self.is_beside or self.raw.has_failed else [])):
             self.stream.close()
-        finally:
-            if self.is_beside:
+        if self.is_beside:
+            with suppress(FileNotFoundError):
                 os.unlink(self.beside)
+
+
+def umask() -> int:
+    """That of this process, which is read by setting it."""
+    mask = os.umask(0o077)
+    os.umask(mask)
+    return mask
+
+
+def scratch() -> io.BufferedRandom:
+    """A file without a name, for what is read again. A failure tells where it is."""
+    try:
+        with tempfile.TemporaryFile(buffering=0) as plain:
+            raw = OutputFile(os.dup(plain.fileno()), "r+b")
+    except OSError as error:
+        raise WriteFailure(error, "a temporary file") from None
+    raw.shown = f"a temporary file in {tempfile.gettempdir()}"
+    return io.BufferedRandom(raw)
 
 
 def replace_file(path: str | os.PathLike[str], text: str) -> None:
@@ -174,8 +255,21 @@ def make_folder(path: str | os.PathLike[str]) -> None:
         raise WriteFailure(error, os.fspath(path)) if error.errno == errno.ENOSPC else Failure(reason(error, path)) from None
 
 
+def hold_descriptors() -> None:
+    """Has each standard descriptor that is closed lead nowhere: else a file that is opened gets its number, and what is said on
+    standard error goes there, or to standard output."""
+    for number in range(3):
+        try:
+            os.fstat(number)
+        except OSError:
+            os.set_inheritable(os.open(os.devnull, os.O_RDWR), True)  # it gets the least number that is free
+    if not sys.stderr:
+        sys.stderr = open(2, "w", closefd=False)
+
+
 def open_output() -> None:
     """Makes standard output one that is UTF-8 everywhere, and whose failures are named."""
+    hold_descriptors()
     if sys.stdout is None:
         raise Failure("standard output: it is closed", NOT_WRITTEN)
     if sys.stdout.fileno() == 1:
@@ -335,10 +429,10 @@ class Progress:
     def tell(self, text: str) -> None:
         now = time.monotonic()
         if self.is_wanted and now - self.begin > 2 and now - self.last > 0.2:
-            print(f"\r\x1b[K{text[:120]}", end="", file=sys.stderr, flush=True)
+            write_error(f"\r\x1b[K{text[:120]}")
             self.last, self.shown = now, True
 
     def clear(self) -> None:
         if self.shown:
-            print("\r\x1b[K", end="", file=sys.stderr, flush=True)
+            write_error("\r\x1b[K")
             self.shown = False

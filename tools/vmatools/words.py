@@ -15,6 +15,13 @@ def number(text: str) -> int:
     return int(text)
 
 
+def integer(text: str) -> int:
+    """Any whole number of up to 100 digits."""
+    if not re.fullmatch("-?[0-9]{1,100}", text):
+        raise argparse.ArgumentTypeError(f"{shortened(text)} is no number of up to 100 digits")
+    return int(text)
+
+
 def count(text: str) -> int:
     """A number of at least 1."""
     value = number(text) if re.fullmatch("[0-9]{1,18}", text) else 0

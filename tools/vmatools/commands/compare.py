@@ -15,17 +15,20 @@ refuse, with different errors), or a kind as it is printed, OPERATION/PROGRAM/YO
 --baseline has such kinds, each with a reason: they are counted too, and only others make the run fail.
 
 Exit status: 0 if nothing differs but what is known, 1 if something does (with --strict also if a known difference doesn't
-occur), 2 on wrong use, if the program or COMMAND can't be run, or if no trace came to its end within --for; 130 and 143 if a
-signal ended the run, after its report.
+occur), 2 on wrong use, if the program or COMMAND can't be run, or if no trace came to its end within --for; 130, 143 and 129
+if SIGINT, SIGTERM or SIGHUP ended the run, after its report. If a file can't be written, or nobody reads on, the run ends
+there, and what was found by then is in the other files.
 """
 
 import argparse
 import difflib
 import fnmatch
 import os
+import re
 import sys
 import time
-from contextlib import ExitStack, closing
+from collections.abc import Iterator
+from contextlib import ExitStack, closing, contextmanager
 from pathlib import Path
 from typing import Optional
 
@@ -39,10 +42,10 @@ from ..oracles import PROFILE
 from ..running import program
 from ..systems import beside
 from ..systems.batch import capabilities_of
-from ..words import count, time_limit
+from ..words import count, integer, shortened, time_limit
 
 SUMMARY = "run random traces on the program and on a system of yours, and shrink what differs"
-SIGNALS = {"SIGINT": 130, "SIGTERM": 143}
+SIGNALS = {"SIGINT": console.INTERRUPTED, "SIGTERM": console.TERMINATED, "SIGHUP": console.HUNG_UP}
 OPERATIONS = (*traces.FORMS, "list", "output", "run")  # of kinds
 
 
@@ -58,8 +61,8 @@ def profiles_of(text: str) -> list[str]:
 
 
 def numbers_of(text: str) -> list[int]:
-    if not all(word.isdecimal() for word in text.split(",")):
-        raise argparse.ArgumentTypeError(f"{text} is no list of numbers of traces")
+    if not re.fullmatch("[0-9]{1,18}(,[0-9]{1,18})*", text):
+        raise argparse.ArgumentTypeError(f"{shortened(text)} is no list of numbers of traces")
     return [int(word) for word in text.split(",")]
 
 
@@ -81,6 +84,12 @@ def thread_count(text: str) -> int:
     return value
 
 
+def report_file(text: str) -> Path:
+    if text == "-":
+        raise argparse.ArgumentTypeError("- is no file, and standard output has the text")
+    return Path(text)
+
+
 class OfMachine(argparse.Action):
     """What is right is this machine's Linux."""
 
@@ -95,7 +104,7 @@ def add_traces(parser: argparse.ArgumentParser, default: str = "200") -> None:
     """The words that say which traces there are, for `emit` too."""
     parser.add_argument("--runs", type=count, metavar="N", help=f"how many random traces ({default})")
     parser.add_argument("--lines", type=count, default=30, metavar="N", help="operations of a trace (30)")
-    parser.add_argument("--seed", type=int, default=1, metavar="S", help="the same seed gives the same traces (1)")
+    parser.add_argument("--seed", type=integer, default=1, metavar="S", help="the same seed gives the same traces (1)")
     parser.add_argument(
         "--profile",
         type=profiles_of,
@@ -162,7 +171,7 @@ def add_arguments(parser: argparse.ArgumentParser) -> None:
         metavar="FILE",
         help="lines of JSON, a finding as it comes; without FILE on standard output, " "in place of the text",
     )
-    report.add_argument("--junit", type=Path, metavar="FILE", help="the report as JUnit's XML")
+    report.add_argument("--junit", type=report_file, metavar="FILE", help="the report as JUnit's XML")
     report.add_argument(
         "--corpus",
         type=Path,
@@ -302,28 +311,62 @@ def compare_sides(options: argparse.Namespace, settings: Settings, sides: compar
         report = Report(sys.stdout, sides.oracle) if options.json != "-" else None
         campaign = Campaign(settings, sides, findings, journal, report, kept)
         campaign.begin = options.begin
-        with campaign.stoppable():
+        failures = Failures()
+        with campaign.stoppable(), failures.kept():
             campaign.run()
-        status = status_of(findings, options.strict, campaign.stopped)
-        if not status and findings.left_out and not findings.traces:
-            console.say("the system ran none of the traces")
-            status = console.WRONG_USE
-        elif campaign.is_too_short:
-            console.say(f"no trace came to its end in {settings.for_seconds:g} seconds: give it more by --for")
-            status = console.WRONG_USE
-        if journal:
-            journal.write(findings.end_event(status, campaign.stopped))
         for _, kind in findings.in_order():
             campaign.ask_models(kind.shortest)
-        if report:
-            report.end(findings, options.coverage, campaign.stopped)
-        for pattern in sides.rules.patterns:
-            if not findings.aside[f"--ignore {pattern}"]:
-                console.say(f"--ignore {pattern}: no difference is of this kind")
-        if junit:
-            junit.stream.write(found.junit_of(findings, options.strict, campaign.stopped))
-            junit.take_place()
+        stopped = campaign.stopped or (str(failures.first) if failures.first else None)
+        status = failures.first.status if failures.first else ended_status(campaign, options.strict)
+        with failures.kept():
+            if journal:
+                journal.write(findings.end_event(status, stopped))
+        with failures.kept():
+            if junit:
+                junit.stream.write(found.junit_of(findings, options.strict, stopped))
+                junit.take_place()
+        with failures.kept():
+            if report:
+                report.end(findings, options.coverage, stopped)
+        failures.end()
+    tell_unused(sides.rules, findings)
     return status
+
+
+class Failures:
+    """What can't be run or written, of which each ends the run: the others get what was found all the same."""
+
+    first: console.Failure | None = None
+
+    @contextmanager
+    def kept(self) -> Iterator[None]:
+        try:
+            yield
+        except console.Failure as failure:
+            self.first = self.first or failure
+
+    def end(self) -> None:
+        if self.first:
+            raise self.first
+
+
+def ended_status(campaign: Campaign, is_strict: bool) -> int:
+    """The status of a run, and where no trace was run a line that says why."""
+    findings, seconds = campaign.findings, campaign.settings.for_seconds
+    status = status_of(findings, is_strict, campaign.stopped)
+    if not status and findings.left_out and not findings.traces:
+        console.say("the system ran none of the traces")
+        return console.WRONG_USE
+    if campaign.is_too_short:
+        console.say(f"no trace came to its end in {seconds:g} seconds: give it more by --for")
+        return console.WRONG_USE
+    return status
+
+
+def tell_unused(rules: comparison.Rules, findings: Findings) -> None:
+    for pattern in rules.patterns:
+        if not findings.aside[f"--ignore {pattern}"]:
+            console.say(f"--ignore {pattern}: no difference is of this kind")
 
 
 def opened_journal(options: argparse.Namespace, settings: Settings, kept: Kept, stack: ExitStack) -> Journal | None:

@@ -46,6 +46,7 @@ from ..traces import read_trace
 from ..words import count, repeated, time_limit
 
 SECONDS = 10.0
+ENDED = (console.INTERRUPTED, console.TERMINATED, console.HUNG_UP)
 SUMMARY = "measure a system case by case, with the conformance suite"
 FORMS: dict[str, Callable[[Sequence[Result]], Iterator[str]]] = {
     "tap": conformance.as_tap,
@@ -239,10 +240,17 @@ def open_forms(options: argparse.Namespace, stack: contextlib.ExitStack) -> dict
     }
 
 
-def write_form(form: str, file: console.NewFile | None, results: Sequence[Result]) -> None:
-    (file.stream if file else sys.stdout).writelines(f"{line}\n" for line in FORMS[form](results))
-    if file:
-        file.take_place()
+def write_forms(forms: dict[str, console.NewFile | None], results: Sequence[Result]) -> console.Failure | None:
+    """Writes each form, and returns the first failure: one that can't be written is no loss of the others."""
+    failures = list[console.Failure]()
+    for form, file in sorted(forms.items(), key=lambda item: item[1] is None):  # what goes to a pipe comes last
+        try:
+            (file.stream if file else sys.stdout).writelines(f"{line}\n" for line in FORMS[form](results))
+            if file:
+                file.take_place()
+        except console.Failure as failure:
+            failures.append(failure)
+    return failures[0] if failures else None
 
 
 def oracle_for(options: argparse.Namespace) -> oracles.Oracle:
@@ -272,12 +280,11 @@ def run(options: argparse.Namespace) -> int:
         forms = open_forms(options, stack)
         results, failure = run_all(cases, options)
         not_run = [conformance.not_run(case, str(failure)) for case in cases[len(results) :]]
-        for form, file in forms.items():
-            write_form(form, file, [*results, *not_run])
-    if None not in forms.values() and (failure is None or failure.status == console.INTERRUPTED):
+        not_written = write_forms(forms, [*results, *not_run])
+    if None not in forms.values() and (failure is None or failure.status in ENDED):
         report(results, given)
-    if failure:
-        raise failure
+    if failure or not_written:
+        raise failure or not_written  # type: ignore[misc]
     if all(result.verdict is Verdict.LEFT_OUT for result in results):
         raise console.Failure("the system ran none of the cases")
     return 0 if all(result.verdict in (Verdict.PASSED, Verdict.LEFT_OUT) for result in results) else 1
@@ -289,8 +296,8 @@ def run_all(cases: Sequence[Case], options: argparse.Namespace) -> tuple[list[Re
     try:
         for result in each_result(cases, options):
             results.append(result)
-    except KeyboardInterrupt:
-        return results, console.Failure(f"interrupted: {len(results)} of {len(cases)} cases", console.INTERRUPTED)
+    except KeyboardInterrupt as interrupt:
+        return results, console.interruption(interrupt, f": {len(results)} of {len(cases)} cases")
     except console.Failure as failure:
         return results, failure
     return results, None

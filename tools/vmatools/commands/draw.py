@@ -79,13 +79,13 @@ def runs_of(options: argparse.Namespace) -> tuple[list[Run], dict[int, File]]:
     """The runs of the parent and of its children, and the files by their descriptors."""
     source, *others = console.open_inputs(options.trace, *([options.output] if options.output else []))
     try:
-        with console.reading(options.trace):
+        with source, console.reading(options.trace):
             trace, texts = read_numbered(source, None if options.list is not None else options.most)
     except BadLine as bad:
         raise explanations.refusal(bad, options.trace) from None
     output = None
     for other in others:
-        with console.reading(options.output):
+        with other, console.reading(options.output):
             output = other.read(MOST_BYTES)
     try:
         return replayed(trace, texts, output, options.oracle), {file.descriptor: file for file in trace.files}

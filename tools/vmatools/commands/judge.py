@@ -30,8 +30,8 @@ def run(options: argparse.Namespace) -> int:
     if not options.oracle.kernel:
         program.say_unbuilt()
     trace, output = console.open_inputs(options.trace, options.output)
-    read = explanations.read(trace, options.trace)
-    with console.reading(options.output):
+    with trace, output, console.reading(options.output):
+        read = explanations.read(trace, options.trace)
         try:
             wrong = judging.first_wrong(read, output, options.oracle)
         except NotModelled as gap:

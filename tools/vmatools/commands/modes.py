@@ -6,15 +6,13 @@ import re
 import select
 import shutil
 import signal
-import subprocess
-import tempfile
 from collections.abc import Callable, Iterator
 from dataclasses import dataclass
 from typing import IO, NoReturn
 
 from .. import console, oracles
 from ..linux.areas import NotModelled
-from ..running import program
+from ..running import children, program
 from ..texts import explanations, maps_texts
 from ..traces import LIMITS, number_of
 from ..unproved import sessions
@@ -67,11 +65,11 @@ def command_of(options: Options, words: list[str]) -> list[str]:
 def answered(options: Options, words: list[str], source: IO[bytes], output: IO[bytes] | None = None) -> tuple[int, str]:
     """Runs the program over an input, with standard output as its own where no other is given: its status and its message."""
     console.flush_output()
-    with subprocess.Popen(command_of(options, words), stdin=source, stdout=output, stderr=subprocess.PIPE) as process:
+    with program.begin(command_of(options, words), source, output) as process:
         try:
             _, message = process.communicate()
         finally:
-            process.kill()
+            children.end(process)
     return process.returncode, message.decode("utf-8", "replace")
 
 
@@ -107,7 +105,7 @@ def opened(path: str) -> IO[bytes]:
     source: IO[bytes] = console.open_input(path)
     if source.seekable():
         return source
-    kept = tempfile.TemporaryFile()
+    kept = console.scratch()
     with console.reading(path), source:
         left = MOST_READ + 1
         while left and (piece := source.read(min(left, PIECE))):
@@ -212,7 +210,7 @@ def run_generate(options: Options) -> int:
 
 
 def run_check(options: Options) -> int:
-    with joined(options.trace, options.output) as text, tempfile.TemporaryFile() as verdict:
+    with joined(options.trace, options.output) as text, console.scratch() as verdict:
         status, message = answered(options, ["check"], text, verdict)
         check_status(status, message, lambda: explain_check(options, text, message))
         verdict.seek(0)
@@ -234,7 +232,7 @@ def joined(trace: str, output: str | None) -> IO[bytes]:
         return opened(trace)
     if trace == output == "-":
         raise console.Failure("only one file can be standard input")
-    text = tempfile.TemporaryFile()
+    text = console.scratch()
     with opened(trace) as first, opened(output) as second:
         with console.reading(trace):
             head = first.read(LIMITS["bytes"] + 1)

@@ -25,7 +25,7 @@ from ..words import repeated
 from . import conformance, generator, ranking
 from .answers import answers_of
 from .comparison import Examined, Found, Seen, Sides, Stopped, examine, without_all
-from .corpus import Corpus
+from .corpus import Corpus, GivenUp
 from .findings import MOST_SHOWN, Finding, Findings, Journal, Kind, Pairs
 from .fitting import fitted
 from .keeping import Kept
@@ -180,6 +180,7 @@ class Campaign:
         self.progress, self.pool = Progress(), ThreadPoolExecutor(max_workers=settings.jobs)
         self.small = ThreadPoolExecutor(max_workers=1)  # makes one kind small after the other
         self.corpus = corpus_of(settings, self.kept)
+        self.corpus.is_over = lambda: self.is_over
         self.waiting: deque[Source] = deque()  # what a worker had no time for
         self.at_once = 1  # traces that a worker takes
         self.examining: dict[Future[list[Told]], list[Source]] = {}
@@ -200,7 +201,9 @@ class Campaign:
     @contextmanager
     def stoppable(self) -> Iterator[None]:
         """A first signal ends the run with a report of what was found; another one after it ends it at once."""
-        kept = {name: signal.signal(name, self.stop) for name in (signal.SIGINT, signal.SIGTERM)}
+        heard = [signal.SIGINT, signal.SIGTERM]
+        heard += [signal.SIGHUP] if signal.getsignal(signal.SIGHUP) != signal.SIG_IGN else []  # as it is under nohup
+        kept = {name: signal.signal(name, self.stop) for name in heard}
         try:
             yield
         finally:
@@ -234,7 +237,8 @@ class Campaign:
         try:
             while not self.is_over:
                 self.make_small()
-                self.fill(rest)
+                with suppress(GivenUp):
+                    self.fill(rest)
                 if not self.shrinking and not self.examining:
                     break
                 work: list[Future[Any]] = [*self.examining, *self.shrinking]

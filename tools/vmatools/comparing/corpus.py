@@ -17,6 +17,10 @@ MEASURED = (3, 8, 13, 18)
 MOST_LINES = 60
 
 
+class GivenUp(Exception):
+    """A trace isn't made any more, since the whole run ends."""
+
+
 class Corpus:
     """What was kept, and the traces that are made of it. `told` is given each trace that is kept."""
 
@@ -38,6 +42,7 @@ class Corpus:
         self.before = 0  # pairs that the seeds reach
         self.entries: list[Entry] = []
         self.number = 0
+        self.is_over: Callable[[], bool] = lambda: False  # whether nobody wants more traces
         self.reached: list[int] = []  # how many pairs were known before each trace
 
     @property
@@ -64,6 +69,8 @@ class Corpus:
         return self.next()
 
     def next(self) -> tuple[Trace, str]:
+        if self.is_over():
+            raise GivenUp
         if not self.number:
             self.begin()
         turn, number = self.number % TURNS, self.number

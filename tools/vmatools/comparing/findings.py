@@ -10,7 +10,7 @@ from fnmatch import fnmatchcase
 from pathlib import Path
 from typing import Any, NamedTuple, Optional
 
-from ..console import Failure, counted, whole
+from ..console import Failure, counted, printable, whole
 from ..outputs import Difference
 from . import junit, ranking
 from .answers import Answers
@@ -98,7 +98,7 @@ class Baseline:
                 continue
             if pattern.count("/") < 2 and "*" not in pattern:
                 raise Failure(
-                    f"{path}: line {place}: `{pattern.strip()}` is no name of a difference, OPERATION/PROGRAM/YOURS"
+                    f"{path}: line {place}: `{printable(pattern.strip())}` is no name of a difference, OPERATION/PROGRAM/YOURS"
                 )
             if not mark or not reason.strip():
                 raise Failure(f"{path}: line {place}: a reason is missing behind ` # `")

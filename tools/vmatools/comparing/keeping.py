@@ -16,7 +16,6 @@ from ..traces import Trace
 from .findings import Finding
 
 MARK = "# vma compare: "  # the line of a kept trace that has the name of its kind
-NEW = ".new"
 
 
 @dataclass
@@ -32,7 +31,8 @@ class Kept:
         console.make_folder(folder)
         if not os.access(folder, os.W_OK | os.X_OK):
             raise console.Failure(f"nothing can be written to the folder {folder}")
-        found = {path: name_in(console.whole_text(str(path))) for path in sorted(folder.glob("*.trace"))}
+        paths = sorted(path for path in folder.glob("*.trace") if path.is_file())
+        found = {path: name_in(console.whole_text(str(path))) for path in paths}
         return cls(folder, dict(sorted(found.items(), key=lambda item: not item[1])))
 
     @property

@@ -28,17 +28,34 @@ KEEPERS: list[Keeper] = []  # the one, where it runs
 
 
 def start(
-    command: Sequence[str | os.PathLike[str]], pass_fds: Sequence[int] = (), **streams: Any
+    command: Sequence[str | os.PathLike[str]], pass_fds: Sequence[int] = (), is_apart: bool = True, **streams: Any
 ) -> subprocess.Popen[bytes]:
-    """Starts a command. Whoever starts it calls `end` when it has ended, or is to end."""
+    """Starts a command, which hears this terminal's Ctrl-C itself where it isn't apart. Whoever starts it calls `end` when it has
+    ended, or is to end."""
+    kept = [*pass_fds, the_keeper().mark]
+    process = subprocess.Popen(command, start_new_session=is_apart, pass_fds=kept, **streams)
+    keep(process.pid)
+    RUNNING.add(process)
+    return process
+
+
+def the_keeper() -> Keeper:
+    """The keeper, which is started at first."""
     with LOCK:
         if not KEEPERS:
             KEEPERS.append(start_keeper())
-    kept = [*pass_fds, KEEPERS[0].mark]
-    process = subprocess.Popen(command, start_new_session=True, pass_fds=kept, **streams)
-    tell(f"+{process.pid}")
-    RUNNING.add(process)
-    return process
+    return KEEPERS[0]
+
+
+def keep(process: int) -> None:
+    """Has a process end where the tool ends, by its number, with all that it has started."""
+    the_keeper()
+    tell(f"+{process}")
+
+
+def let_go(process: int) -> None:
+    """Lets a process be."""
+    tell(f"-{process}")
 
 
 def start_keeper() -> Keeper:
@@ -71,7 +88,7 @@ def end(process: subprocess.Popen[bytes]) -> None:
         os.killpg(process.pid, signal.SIGKILL)
     process.wait()
     RUNNING.discard(process)
-    tell(f"-{process.pid}")
+    let_go(process.pid)
 
 
 def stop_all() -> None:

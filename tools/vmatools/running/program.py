@@ -9,7 +9,6 @@ import shutil
 import signal
 import subprocess
 import sys
-import tempfile
 import time
 from collections.abc import Sequence
 from dataclasses import dataclass
@@ -196,10 +195,12 @@ def busy() -> str:
     return f"this machine is busy (load average {load:.0f}, processors: {processors}): give it more time by --seconds"
 
 
-def begin(command: Sequence[str | os.PathLike[str]], source: IO[bytes]) -> subprocess.Popen[bytes]:
-    """Starts a command, with a file as its standard input."""
+def begin(
+    command: Sequence[str | os.PathLike[str]], source: IO[bytes], output: IO[bytes] | int | None = subprocess.PIPE
+) -> subprocess.Popen[bytes]:
+    """Starts a command, with a file as its standard input. With none as its standard output it has this process's."""
     try:
-        return children.start(command, stdin=source, stdout=subprocess.PIPE, stderr=subprocess.PIPE)
+        return children.start(command, stdin=source, stdout=output, stderr=subprocess.PIPE)
     except OSError as error:
         raise console.Failure(why_not_run(command[0], error)) from None
 
@@ -207,7 +208,7 @@ def begin(command: Sequence[str | os.PathLike[str]], source: IO[bytes]) -> subpr
 def run(command: Sequence[str | os.PathLike[str]], text: bytes, seconds: float) -> Ran:
     """Runs a command over a text on its standard input, for so many seconds at most."""
     end, status = time.monotonic() + seconds, None
-    with tempfile.TemporaryFile() as source:
+    with console.scratch() as source:
         source.write(text)
         source.seek(0)
         with begin(command, source) as process:

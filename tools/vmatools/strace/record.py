@@ -19,8 +19,10 @@ its environment, nor what it reads. The lists are read while the command waits i
 command that listens to such filters itself, as a container's runtime may, needs --no-lists. Under strace and with the
 filter, programs with a set-user-ID bit have no more rights than you.
 
-Exit status: the command's, or 128 plus the number of the signal that ended it; 125 if strace isn't there or may not trace,
-if what it keeps can't be written, and on wrong use; 127 if the command isn't there.
+SIGTERM and SIGHUP end the command too. What is kept by then is whole.
+
+Exit status: the command's, or 128 plus the number of the signal that ended it or this tool; 125 if strace isn't there or may
+not trace, if what it keeps can't be written, and on wrong use; 127 if the command isn't there.
 """
 
 import argparse
@@ -35,7 +37,8 @@ import time
 from pathlib import Path
 from typing import BinaryIO, NoReturn
 
-from ..console import Failure, reason, say, write_file
+from ..console import Ended, Failure, reason, say, write_error, write_file
+from ..running import children, keeper
 from . import watching
 
 ADDR_NO_RANDOMIZE = 0x0040000
@@ -119,17 +122,19 @@ class Tracer:
         self.process = subprocess.Popen(
             words, stdin=subprocess.DEVNULL, stderr=subprocess.PIPE, start_new_session=True
         )
+        children.keep(self.process.pid)
         self.said: dict[str, None] = {}
         self.hears = threading.Thread(target=self.hear, daemon=True)
         self.hears.start()
 
     def hear(self) -> None:
         assert self.process.stderr
-        for line in self.process.stderr:
-            text = line.decode(errors="replace").rstrip()
-            if text not in self.said and len(self.said) < MOST_SAID:
-                self.said[text] = None
-                print(text, file=sys.stderr, flush=True)
+        with self.process.stderr:
+            for line in self.process.stderr:
+                text = line.decode(errors="replace").rstrip()
+                if text not in self.said and len(self.said) < MOST_SAID:
+                    self.said[text] = None
+                    write_error(f"{text}\n")
 
     def end(self) -> None:
         """Waits for its end: that of the last process that it traces. Those that the command left behind go on without it."""
@@ -139,6 +144,7 @@ class Tracer:
             self.process.terminate()
             self.process.wait()
         self.hears.join(SECONDS)
+        children.let_go(self.process.pid)
 
     def not_written(self, log: str) -> str | None:
         """Why the log is not whole."""
@@ -167,11 +173,14 @@ def traced(child: int, log: str) -> Tracer:
 
 
 def waited(child: int) -> int:
-    """How the command ended, for the shell."""
+    """How the command ended, for the shell. It ends where this tool is ended."""
     while True:
         try:
             _, status = os.waitpid(child, 0)
             return os.WEXITSTATUS(status) if os.WIFEXITED(status) else 128 + os.WTERMSIG(status)
+        except Ended:
+            keeper.end([child])
+            raise
         except KeyboardInterrupt:
             pass  # the command has the same terminal, and got the interruption itself
 
@@ -203,6 +212,7 @@ def run(choices: argparse.Namespace) -> int:
     except OSError as error:
         fail(125, reason(error))
     child, watcher = started(path, words, lists)
+    children.keep(child)
     try:
         keep_beginning(child, path, words, choices)
     except Failure as failure:
@@ -210,10 +220,13 @@ def run(choices: argparse.Namespace) -> int:
         fail(125, str(failure))
     tracer = traced(child, choices.name + ".log")
     os.kill(child, signal.SIGCONT)
-    status = waited(child)
-    tracer.end()
-    if watcher:
-        watcher.end()
+    try:
+        status = waited(child)
+    finally:
+        tracer.end()
+        if watcher:
+            watcher.end()
+        children.let_go(child)
     for end, why in ((".log", tracer.not_written(choices.name + ".log")), (".lists", watcher and watcher.failure)):
         if why:
             fail(125, f"{choices.name}{end} is not whole: {why}")

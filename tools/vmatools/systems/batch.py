@@ -8,10 +8,10 @@ long the trace may take: an adapter that can end its system earlier does so, and
 
 import contextlib
 import os
+import re
 import select
 import signal
 import subprocess
-import tempfile
 import threading
 import time
 from collections.abc import Iterator, Sequence
@@ -28,6 +28,7 @@ MOST_OUTPUT = 64 << 20
 END_SECONDS = 2.0  # for an adapter to end by itself, with what it started
 FIRST_SECONDS = 10.0  # for a command to say what it has
 DOES_NOT_END = "does not end"
+HEAD = re.compile(rb"trace ([0-9]{1,20}) ([0-9]+(?:\.[0-9]+)?(?:e[+-]?[0-9]{1,2})?)\n")  # how a trace begins
 
 
 @dataclass(frozen=True)
@@ -80,7 +81,7 @@ class Adapter:
         return answer_of(output, last.decode("utf-8", "replace").split(maxsplit=3))
 
     def begin(self) -> subprocess.Popen[bytes]:
-        errors = tempfile.TemporaryFile()
+        errors = console.scratch()
         try:
             self.process = children.start(self.command, stdin=subprocess.PIPE, stdout=subprocess.PIPE, stderr=errors)
         except OSError as error:
@@ -249,9 +250,15 @@ class Request:
 
 
 def requests(stream: IO[bytes]) -> Iterator[Request]:
-    """The traces that come on a stream, for an adapter."""
-    while head := stream.readline().split():
-        number = head[1].decode()
-        last = b"end %s\n" % head[1]
-        lines = list(iter(stream.readline, last))
-        yield Request(number, float(head[2]), b"".join(lines))
+    """The traces that come on a stream, for an adapter. Ends it where they are none, or end within one."""
+    while head := stream.readline():
+        found = HEAD.fullmatch(head)
+        if not found:
+            shown = console.printable(text_of(head.rstrip(b"\n")))
+            raise console.Failure(f"`{shown}` begins no trace: `trace N SECONDS` does (docs/COMPARE.md)")
+        number, seconds, last, lines = found[1].decode(), float(found[2]), b"end %s\n" % found[1], list[bytes]()
+        while (line := stream.readline()) != last:
+            if not line:
+                raise console.Failure(f"the input ends within trace {number}: no line `end {number}` came")
+            lines.append(line)
+        yield Request(number, seconds, b"".join(lines))

@@ -22,8 +22,9 @@ PROCESSOR_FLAGS: dict[str, list[str]] = {"x86_64": ["-fcf-protection=none"], "aa
 
 def cache_folders() -> list[Path]:
     """Where the compiled runner may stand. One for temporary files has to be nobody else's."""
-    home = os.environ.get("XDG_CACHE_HOME") or os.path.expanduser("~/.cache")
-    return [Path(home, "diltzekun"), Path(tempfile.gettempdir(), f"diltzekun-{os.getuid()}")]
+    caches = [os.environ.get("XDG_CACHE_HOME", ""), os.path.expanduser("~/.cache")]
+    own = [Path(home, "diltzekun") for home in caches if os.path.isabs(home)][:1]  # none where no home is known
+    return [*own, Path(tempfile.gettempdir(), f"diltzekun-{os.getuid()}")]
 
 
 def is_ours(folder: Path) -> bool:

@@ -9,13 +9,13 @@ import signal
 import struct
 import subprocess
 import sys
-import tempfile
 import time
 from collections.abc import Callable, Sequence
 from dataclasses import dataclass, field
 from pathlib import Path
 from typing import IO, Protocol
 
+from .. import console
 from ..running import children
 from .places import Refused
 
@@ -91,7 +91,7 @@ class Once:
     descriptors: Sequence[int] = ()
 
     def run(self, script: bytes, seconds: float) -> Ran:
-        with tempfile.TemporaryFile() as source, tempfile.TemporaryFile() as output, tempfile.TemporaryFile() as errors:
+        with console.scratch() as source, console.scratch() as output, console.scratch() as errors:
             source.write(script)
             source.seek(0)
             try:
@@ -143,7 +143,7 @@ class Port:
 
 def started(command: Sequence[str]) -> Port:
     """Starts a process that serves scripts on its standard input and output."""
-    errors = tempfile.TemporaryFile()
+    errors = console.scratch()
     try:
         process = children.start(command, stdin=subprocess.PIPE, stdout=subprocess.PIPE, stderr=errors)
     except OSError as error:
