@@ -154,6 +154,14 @@ class Files(InFolder):
         console.replace_file(link, "new")
         self.assertEqual((real.read_text(), link.is_symlink(), real.stat().st_mode & 0o777), ("new", True, 0o640))
 
+    def test_import_keeps_an_old_file_where_it_fails(self) -> None:
+        log, replies = str(self.put("log", "no log\n")), self.put("replies", "old")
+        missing = self.top / "missing"
+        self.assertEqual(run("import", log, "--replies", str(replies), "--final", str(missing)).returncode, console.WRONG_USE)
+        self.assertEqual((replies.read_text(), missing.exists()), ("old", False))
+        done = run("import", log, "--replies", str(replies), "--final", str(replies))
+        self.assertEqual(done.stderr, f"vma import: {replies}: it is given twice: each needs a file of its own\n")
+
     def test_a_new_file_takes_no_name_that_is_taken(self) -> None:
         own, file = self.put("file.new", "own"), self.top / "file"
         console.replace_file(file, "text")
@@ -212,6 +220,18 @@ class Descriptors(InFolder):
             progress.begin -= 3
             progress.tell("1 of 2")
             progress.clear()
+
+
+class FloodedErrors(unittest.TestCase):
+    def test_what_an_adapter_says_fills_no_disk(self) -> None:
+        says = "read a; head -c 5000000 /dev/zero >&2; sleep 1.5; echo last >&2; echo maps 0; echo end 1; read a; read a; exit 3"
+        adapter = batch.Adapter(["sh", "-c", says])
+        self.addCleanup(adapter.close)
+        with mock.patch.object(batch, "MOST_OUTPUT", 1 << 20):
+            self.assertEqual(adapter.run(b"vmatrace 1\n", 30).output, "maps 0\n")
+            assert adapter.errors is not None
+            self.assertLess(os.fstat(adapter.errors.fileno()).st_blocks * 512, 1 << 20)
+        self.assertEqual(adapter.said(), "last\n")
 
 
 class LongWords(InFolder):

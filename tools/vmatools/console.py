@@ -238,10 +238,10 @@ def scratch() -> io.BufferedRandom:
     return io.BufferedRandom(raw)
 
 
-def replace_file(path: str | os.PathLike[str], text: str) -> None:
+def replace_file(path: str | os.PathLike[str], text: str | bytes) -> None:
     """A whole file, which is there with all of the text or as it was before."""
     with closing(NewFile(path)) as file:
-        file.stream.write(text)
+        file.stream.buffer.write(text if isinstance(text, bytes) else text.encode())
         file.take_place()
 
 

@@ -23,7 +23,7 @@ import argparse
 import sys
 from pathlib import Path
 
-from ..console import MOST_BYTES, Failure, make_folder, named, open_file, printable, say, whole_text, write_file
+from ..console import MOST_BYTES, Failure, NewFile, make_folder, named, printable, replace_file, say, whole_text
 from ..model import Space as Model, answer, permissions
 from ..texts.explanations import explain
 from ..traces import LIMITS, PAGE, BadLine, Line, read_trace
@@ -337,7 +337,7 @@ def run_one(options: argparse.Namespace, importer: Importer) -> int:
 def write_beside(trace: Trace, space: Space, replies: str | None, final: str | None) -> None:
     """The replies, and the kernel's last list."""
     if replies:
-        write_file(replies, trace.replies())
+        replace_file(replies, trace.replies())
     if final and space.final:
         write_list(final, space.final[1])
     elif final:
@@ -347,7 +347,7 @@ def write_beside(trace: Trace, space: Space, replies: str | None, final: str | N
 
 def write_list(path: str, areas: list[Area]) -> None:
     text = "".join(f"{area.line()}\n" for area in areas)
-    write_file(path, text.encode("utf-8", "surrogateescape"))
+    replace_file(path, text.encode("utf-8", "surrogateescape"))
 
 
 def run_all(options: argparse.Namespace, importer: Importer) -> int:
@@ -359,7 +359,7 @@ def run_all(options: argparse.Namespace, importer: Importer) -> int:
             continue
         trace = importer.trace_of(space)
         name = folder / space.name()
-        write_file(name.with_suffix(".trace"), trace.text())
+        replace_file(name.with_suffix(".trace"), trace.text())
         write_beside(trace, space, f"{name}.kernel", f"{name}.maps" if space.final else None)
         for step in trace.steps:
             if step.fork and step.fork.final and step.text:
@@ -396,6 +396,8 @@ def check_words(options: argparse.Namespace) -> None:
         raise Failure("--exec, --fork, --all and --final need a LOG")
     if options.all and (options.replies or options.final):
         raise Failure("--all writes the replies and last lists itself, beside each trace")
+    if options.replies and options.replies == options.final:
+        raise Failure(f"{printable(options.final)}: it is given twice: each needs a file of its own")
     if options.log == "-" and options.maps == "-":
         raise Failure("only one file can be standard input")
 
@@ -406,7 +408,7 @@ def run(options: argparse.Namespace) -> int:
     try:
         for path in (options.replies, options.final):
             if path:
-                open_file(path, "a").close()  # whether it can be written, before the work
+                NewFile(path).close()  # whether it can be written, before the work
         if options.all:
             make_folder(options.all)
         if options.log is None:

@@ -26,6 +26,7 @@ from .running import ended, read_some
 
 MOST_OUTPUT = 64 << 20
 END_SECONDS = 2.0  # for an adapter to end by itself, with what it started
+LOOK_SECONDS = 0.5  # between two looks at how much is on standard error
 FIRST_SECONDS = 10.0  # for a command to say what it has
 DOES_NOT_END = "does not end"
 HEAD = re.compile(rb"trace ([0-9]{1,20}) ([0-9]+(?:\.[0-9]+)?(?:e[+-]?[0-9]{1,2})?)\n")  # how a trace begins
@@ -97,7 +98,12 @@ class Adapter:
         if self.errors is None:
             return ""
         self.errors.seek(max(self.errors.seek(0, 2) - 10_000, 0))
-        return self.errors.read().decode("utf-8", "replace")
+        return self.errors.read().decode("utf-8", "replace").lstrip("\0")
+
+    def bound_errors(self) -> None:
+        """Lets go of what the process wrote on standard error, where it is so much that it may fill a disk."""
+        if self.errors and os.fstat(self.errors.fileno()).st_blocks * 512 > MOST_OUTPUT:
+            os.ftruncate(self.errors.fileno(), 0)  # what follows is written behind a hole
 
     def exchange(self, process: subprocess.Popen[bytes], sent: bytes, marks: list[bytes], seconds: float) -> list[Answer]:
         """The answers with these marks, each of which has so many seconds. The process may write before it has read all."""
@@ -106,7 +112,9 @@ class Adapter:
         end = time.monotonic() + seconds
         while len(answers) < len(marks):
             wanted = [process.stdin] if left else []
-            ready, free, _ = select.select([process.stdout], wanted, [], max(end - time.monotonic(), 0))
+            rest = max(end - time.monotonic(), 0)
+            ready, free, _ = select.select([process.stdout], wanted, [], min(rest, LOOK_SECONDS))
+            self.bound_errors()
             left = left[written(process.stdin.fileno(), left) :] if free else left
             piece = read_some(process.stdout.fileno()) if ready else b""
             since = len(data)
@@ -114,18 +122,18 @@ class Adapter:
             while len(answers) < len(marks) and (found := lines_of(data, at, since, marks[len(answers)])):
                 answers.append(self.answered(bytes(data[at : found[0]]), bytes(data[slice(*found)])))
                 at, end = found[1], time.monotonic() + seconds
-            fault = self.fault(process, bool(ready), bool(free), piece, len(data) - at) if len(answers) < len(marks) else None
-            if fault:
+            is_idle = not ready and not free and rest <= LOOK_SECONDS
+            if len(answers) < len(marks) and (fault := self.fault(process, bool(ready), is_idle, piece, len(data) - at)):
                 return [*answers, Answer(text_of(data[at:]), fault, self.said())]
         return answers
 
-    def fault(self, process: subprocess.Popen[bytes], is_ready: bool, is_free: bool, piece: bytes, size: int) -> str | None:
+    def fault(self, process: subprocess.Popen[bytes], is_ready: bool, is_idle: bool, piece: bytes, size: int) -> str | None:
         """How the process fails, by what came of it just now, and by how much came of a trace."""
         if size > MOST_OUTPUT:
             return "writes on and on"
         if is_ready and not piece:
             return fault_of(ended(process))
-        return None if is_ready or is_free else DOES_NOT_END
+        return DOES_NOT_END if is_idle else None
 
     def end_input(self) -> None:
         """Tells the process that no more traces come."""
