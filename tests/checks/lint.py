@@ -1,6 +1,7 @@
 """Checks that all that tests/shown.txt names is there, and the Python of the repository by mypy and flake8. No pattern has a
 possessive group, which Python 3.11.2 matches wrongly. A public name of the definitions stands once: linux_rules alone may give a
-definition of the kernel the name that the same thing has in the profile. No crate cites what another keeps in `Internal`.
+definition of the kernel the name that the same thing has in the profile. No crate cites what another keeps in `Internal`. Code
+lets other threads run in three places alone, and forgets nothing.
 
 mypy has to find every function typed, and flake8 nothing, with the settings of pyproject.toml. What is not installed is named
 and passed (Debian packages mypy and flake8).
@@ -90,9 +91,9 @@ def check_patterns() -> None:
 
 
 def check_names() -> None:
-    for title, found in (("names", names.repeated(TOP)), ("Internal", names.trespasses(TOP))):
+    for title, found in (("names", names.repeated(TOP)), ("Internal", names.trespasses(TOP)), ("waits", names.waits(TOP))):
         if wrong := "\n".join(found):
-            fail(title, f"of specs/:\n{wrong[:MOST]}")
+            fail(title, f"of crates/:\n{wrong[:MOST]}")
         passed(title)
 
 

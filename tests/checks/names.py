@@ -1,4 +1,6 @@
-"""Which public names of `specs/` stand twice, and which crates cite what another keeps for itself."""
+"""Which public names of `specs/` stand twice, which crates cite what another keeps for itself, and which code lets other threads
+run or keeps for ever what it has, where no clause could tell.
+"""
 
 import re
 from collections import defaultdict
@@ -7,6 +9,11 @@ from pathlib import Path
 
 DEFINED = re.compile(r"(?m)^(?:(?:abbrev|unfoldable|opaque|rec) )*pub (?:record |data )?(?!mod |use )([^\s:(]+)")
 CITED = re.compile(r"\b(?:Rattle\.)?([a-z_0-9]+)(?:\.|::)specs(?:\.|::)Internal\b")
+COMMENT = re.compile(r"//.*")
+KEPT = re.compile(r"\b(yield_now|sleep|forget|leak|ManuallyDrop)\b *[(<:]")
+# The code that lets other threads run: each waits for readers, and has no pin open and no slot.
+WAITS = dict.fromkeys(("area_tree/src/waiting.rt", "mm_state/src/spans.rt", "mm_state/src/store.rt"), ["yield_now"])
+TESTS = ("space_tests", "replay_tests", "tree_tests")
 RECORDED = re.compile(r"Linux_[0-9_]+")  # statements about one version of the kernel, which a program makes
 KERNEL = "linux_rules"
 # What linux_rules defines for the kernel's list, as another crate does for the profile's list.
@@ -50,3 +57,12 @@ def trespasses(top: Path) -> Iterator[str]:
         for cited in CITED.findall(path.read_text(encoding="utf-8")):
             if cited not in ("crate", crate):
                 yield f"{path.relative_to(top)} cites Internal of {cited}"
+
+
+def waits(top: Path) -> Iterator[str]:
+    """The files that let other threads run, or keep for ever what they have, otherwise than is known."""
+    for path in sorted(top.glob("crates/*/src/**/*.rt")):
+        name = path.relative_to(top / "crates").as_posix()
+        found = KEPT.findall(COMMENT.sub("", path.read_text(encoding="utf-8")))
+        if not name.startswith(TESTS) and found != WAITS.get(name, []):
+            yield f"{name} has {', '.join(found) or 'nothing'}, and not {', '.join(WAITS.get(name, ['nothing']))}"

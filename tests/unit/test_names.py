@@ -38,3 +38,12 @@ class Names(InFolder):
         self.put("crates/high/src/lib.rt", "#[tactic(auto, unfolding(low::specs::Internal::Items::end))]\n")
         found = [f"crates/high/{path} cites Internal of low" for path in ("proofs/End.antt", "src/lib.rt")]
         self.assertEqual(list(names.trespasses(self.top)), found)
+
+    def test_code_waits_where_it_is_known_to(self) -> None:
+        self.put("crates/mm_state/src/spans.rt", "    // yield_now() is said here\n    thread::yield_now();\n")
+        self.put("crates/mm_state/src/store.rt", "thread::yield_now();\nstd::thread::yield_now();\n")
+        self.put("crates/mm_space/src/space.rt", "std::mem::forget(guard); ManuallyDrop::new(view);\n")
+        self.put("crates/tree_tests/src/lib.rt", "thread::yield_now();\n")
+        twice = "mm_state/src/store.rt has yield_now, yield_now, and not yield_now"
+        kept = "mm_space/src/space.rt has forget, ManuallyDrop, and not nothing"
+        self.assertEqual(list(names.waits(self.top)), [kept, twice])
