@@ -424,8 +424,8 @@ class Runs(unittest.TestCase):
         self.campaign(told, 5, sides=right, suite=suite, grows=True).run()
         told.pairs = findings.Pairs(9, 5, 1)
         reports.Report(stream).end(told, False, None)
-        self.assertIn("missed 5 to 7 of 361 wrong models; this one was shorter\n6 traces, 0 differ\n", stream.getvalue())
-        for seconds, wanted in ((29.5, "30 seconds .* 5 to 7 .* models$"), (119.5, "two minutes .* 0 or 1"), (900, "two minu")):
+        self.assertIn("missed 0 or 1 of 361 wrong models; this one was shorter\n6 traces, 0 differ\n", stream.getvalue())
+        for seconds, wanted in ((29.5, "30 seconds .* 0 or 1 .* models$"), (119.5, "two minutes .* 0 of"), (900, "ten minu")):
             self.assertRegex(reports.missed_by(seconds), wanted)
         told.differing = 1
         stream = io.StringIO()

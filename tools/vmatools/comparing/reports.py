@@ -17,7 +17,7 @@ MOST_LINES = 12  # of an answer
 
 # Of WRONG_MODELS by rule, how many a run of so many seconds with a fast adapter missed: `dev/wrong-models --only rule --for ..`.
 WRONG_MODELS = 361
-MISSED = [(30, "30 seconds", "5 to 7"), (120, "two minutes", "0 or 1")]
+MISSED = [(30, "30 seconds", "0 or 1"), (120, "two minutes", "0"), (600, "ten minutes", "0")]
 
 
 def missed_by(seconds: float) -> str:
