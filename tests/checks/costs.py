@@ -96,6 +96,16 @@ def faults_before_one(count: int) -> list[str]:
     return ["vmatrace 1", *["1 fault 0x1000 r"] * count, "0 fault 0x1000 r"]
 
 
+def changing(count: int) -> list[str]:
+    """The last of many areas: in its place it grows, is split, made one again, shrunk, and given other access and the old one."""
+    half, both = count // 2, "PROT_READ|PROT_WRITE"
+    low, high = place(half - 1), place(half - 1) + 4096
+    lengths = [f"0 mremap {low:#x} {old} {new} 0" for old, new in ((4096, 8192), (8192, 4096))]
+    part, whole = ([f"0 mprotect {page:#x} 4096 {prot}" for prot in (both, "PROT_READ")] for page in (high, low))
+    turns = [lengths[0], *part, lengths[1], *whole]
+    return ["vmatrace 1", *mapped(range(half)), *(turns[turn % len(turns)] for turn in range(half))]
+
+
 def placed(count: int) -> list[str]:
     """Calls that name no place. Each area has other access than the one above it, so that no two become one."""
     ways = [f"0 mmap 0 4096 {prot} MAP_PRIVATE|MAP_ANONYMOUS -1 0" for prot in ("PROT_READ", "PROT_READ|PROT_WRITE")]
@@ -236,6 +246,7 @@ TIME: list[tuple[str, Mode, Input, int]] = [
     ("areas that leave together", ["serial"], given(leaving_together), 16_000),
     ("an area that moves past others", ["serial"], given(moving), 25_000),
     ("faults that a later line comes before", ["serial"], given(faults_before_one), 50_000),
+    ("an area that changes beside others", ["serial"], given(changing), 25_000),
     ("a load", ["generate", "{}", "1"], nothing, 100_000),
     ("a text of calls", ["check"], judged(calls), 50_000),
     ("a text of an area that moves past others", ["check"], judged(moving), 25_000),
