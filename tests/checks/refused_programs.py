@@ -1,6 +1,7 @@
 """Checks that programs above mm_space do not compile: one that makes a Closed of its own, one that uses a pass that a closing
 took, and one that makes a call with the pass of an area that it holds. Nor do two above mmap_lock that take the lock again while
 they have it, at once or by a function that they call, which would wait for ever; nor mm_space with a fault that takes it twice.
+Nor do two above node_slots that read a row on another count than the one that is handed: one that it begins, and a copy.
 
 Each is a file of tests/checks/programs, made as a crate with one empty test in a copy of the repository, and compiled there
 from the sources by `rt try`, which proves nothing. It has to refuse it for the reason that is named here, and to accept the
@@ -29,6 +30,9 @@ PROGRAMS = {
     "reads_while_it_has_the_lock": "borrow",
     "takes_a_lock_twice_with_one_loan": "moved",
     "forges_a_token": "private",
+    "reads_on_a_count": None,
+    "begins_a_count_of_its_own": "borrow",
+    "copies_a_count": "clone",
 }
 TESTED = "\n#[cfg(test)]\nmod tests {\n    #[test]\n    fn compiles() {}\n}\n"  # rt try asks for a test
 
